@@ -1,0 +1,4 @@
+pub mod Lists
+pub mod Talk
+pub mod World
+pub mod Promise
