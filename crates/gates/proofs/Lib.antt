@@ -4,3 +4,6 @@ pub mod Invariant
 pub mod Memories
 pub mod Steps
 pub mod Origins
+pub mod Nets
+pub mod Can
+pub mod Whole

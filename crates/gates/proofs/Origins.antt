@@ -16,6 +16,7 @@ use Rattle.gates.proofs.Talks.{SameTag}
 use Rattle.gates.proofs.Invariant.{Draws, Answers, Uses, SameDraw, SameUse, SameNote, Origin, answered, greeted, Drew, Sound, packetOf, Kept, Inv}
 use Rattle.gates.proofs.Invariant.{one-draw, one-answer, one-drawer, origin-drew, origin-other}
 use Rattle.gates.proofs.Steps.{inv}
+use Rattle.gates.proofs.Nets.{hellos-below}
 
 -- two words with one tag drawn are of one kind
 clash : (a e t n b f s k : ℕ) → Hello a e t n ≡ Reply b f s k → ⊥
@@ -68,13 +69,6 @@ module _ (r : Rules) (w : World) (v : Inv r w) where
   talks-face : (a e : ℕ) (t u : Talk) → In t (w .gates a .talks) → In u (w .gates e .talks) → u .theirs ≡ t .mine → (e ≡ t .with′) × (u .with′ ≡ a) × (u .mine ≡ t .theirs)
   talks-face a e t u i j s =
       facing a (t .with′) (t .mine) (t .theirs) e (u .with′) (u .mine) (talk-origin a t i) (subst (λ z. Origin (w .net) e (u .with′) (u .mine) z) s (talk-origin e u j))
-
-  apart-holds : (one-side-too : Unit {0}) →
-      ((p : Note) → In p (w .put) → (0 < p .number) × (p .number ≤ r .most)) ×
-      ((i k : ℕ) (p q : Note) → At i p (w .put) → At k q (w .put) → p .gateTag ≡ q .gateTag → p .number ≡ q .number → i ≡ k)
-  apart-holds _ =
-      (λ p i. let s = v .kept .words (packetOf p) (v .kept .puts-sent p i) in (s .0, s .1),
-       λ i k p q h l e n. distinct-place SameNote (λ x y s. (sym (s .0), sym (s .1))) (w .put) (v .kept .puts-apart) i k p q h l (e, n))
 
   drew-nonzero : (a m : ℕ) → Drew (w .net) a m → 0 < m
   drew-nonzero a m d = of (d .0) (v .kept .words (d .0) (d .1)) (d .2)
@@ -143,3 +137,46 @@ module _ (r : Rules) (w : World) (v : Inv r w) where
     words-below (Reply e a y t) i s = reply-below e a y t i
     words-below (Packet a e m h n x) i s = origin-below a e m h (s .2)
     words-below (Empty a e m h n) i s = origin-below a e m h (s .2)
+
+pub apart : AllApart
+apart r es =
+    let w = world r es in
+    let v = inv r es in
+    record {
+        tags = tags-apart r w v;
+        pairs = talks-face r w v;
+        one-side =
+            λ a e f i k t u y it p q s l.
+            let fu = talks-face r w v a e t u it (at-in i u (w .gates e .talks) p) s in
+            let fy = talks-face r w v a f t y it (at-in k y (w .gates f .talks) q) l in
+            tags-apart r w v e f i k u y p q (fu .2 ∙ sym (fy .2));
+        range = λ p i. let s = v .kept .words (packetOf p) (v .kept .puts-sent p i) in (s .0, s .1);
+        numbers =
+            λ i k p q h l e n. distinct-place SameNote (λ x y s. (sym (s .0), sym (s .1))) (w .put) (v .kept .puts-apart) i k p q h l (e, n) }
+
+pub proper : AllProper
+proper r es =
+    let w = world r es in
+    let v = inv r es in
+    record {
+        no-zero = λ x i. no-zero r w v x (v .kept .words x i);
+        not-to-self = λ x i. not-to-self r w v x (v .kept .words x i);
+        once = word-once r w v;
+        on-time = λ a e t n i. v .kept .words _ i .3;
+        numbers = λ i k m h h′ n x y p q o l. use-place r w v i k m n x y p q (of-talk-uses r w v m h n x o) (of-talk-uses r w v m h′ n y l);
+        opener =
+            λ m m′ h n n′ x y i k o l.
+            opening
+            r
+            w
+            v
+            (byOf x)
+            (forOf x)
+            m
+            h
+            (byOf y)
+            (forOf y)
+            m′
+            (of-talk-origin r w v m h n x (v .kept .words x i) o)
+            (of-talk-origin r w v m′ h n′ y (v .kept .words y k) l);
+        below = λ k g x i. words-below r w v k (λ a e t n j. hellos-below r k es g .each _ j) x i (v .kept .words x i) }

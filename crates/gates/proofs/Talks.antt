@@ -5,7 +5,7 @@ use mathlib.Core.Logic.{_⊎_, inl, inr, ⊎-elim}
 use mathlib.Core.List.{List, [], _∷_, _++_, List·Memᴰ·head, List·Memᴰ·tail, List·Memᴰ·cases-cons, List·Memᴰ·not-nil}
 use Prim.Native.Nat.{ℕ, zero, suc, _+_}
 use lib.Dec.{eqb, ltb, leb}
-use Rattle.std.proofs.shelf.Tests.{eqb-true, eqb-false, and-parts, or-cases, eq-eqb}
+use Rattle.std.proofs.shelf.Tests.{eqb-true, eqb-false, and-parts, or-cases, eq-eqb, ne-eqb, cond-true, cond-false}
 use Rattle.gates.specs.Lists.{In, At}
 use Rattle.gates.specs.Talk.{Rules, Talk, mayCome, maySend}
 use Rattle.gates.specs.World.{Wait, Found, NoTalk, This, forSending, byMine, isTalk, comesIn, change, withoutTalk, waitsFor, withoutWait}
@@ -170,3 +170,48 @@ without-wait t (x ∷ xs) y i = go (eqb (x .tag) t) refl i (λ k. without-wait t
         (λ (k : y ≡ x). (List·Memᴰ·head k, λ h. eqb-false (x .tag) t e (sym (ap (λ (z : Wait). z .tag) k) ∙ h)))
         (λ k. later (rest k))
         (List·Memᴰ·cases-cons j)
+
+-- a number comes exactly if it may in the one talk that the tags name
+pub comes-in-talk : (r : Rules) (now a m h n : ℕ) (ts : List Talk) (t : Talk) → Distinct SameTag ts → In t ts → isTalk a m h t ≡ true → comesIn r now a m h n ts ≡ mayCome r now n t
+unfolding comesIn Distinct
+comes-in-talk r now a m h n [] t d i e = absurd (List·Memᴰ·not-nil i)
+comes-in-talk r now a m h n (u ∷ us) t d i e = ⊎-elim here (λ k. there k (comes-in-talk r now a m h n us t (d .1) k e)) (List·Memᴰ·cases-cons i)
+  where
+    here : t ≡ u → cond (isTalk a m h u) (mayCome r now n u) (comesIn r now a m h n us) ≡ mayCome r now n t
+    here s =
+        cond-true (isTalk a m h u) _ _ (subst (λ z. isTalk a m h z ≡ true) s e) ∙ ap (mayCome r now n) (sym s)
+    there : In t us → comesIn r now a m h n us ≡ mayCome r now n t → cond (isTalk a m h u) (mayCome r now n u) (comesIn r now a m h n us) ≡ mayCome r now n t
+    there k rest = cond-false (isTalk a m h u) _ _ (other (isTalk a m h u) refl) ∙ rest
+      where
+        other : (b : Bool) → isTalk a m h u ≡ b → isTalk a m h u ≡ false
+        other true s = absurd (d .0 t k (is-talk a m h u s .1 ∙ sym (is-talk a m h t e .1)))
+        other false s = s
+
+-- and does not where there is none
+pub comes-in-none : (r : Rules) (now a m h n : ℕ) (ts : List Talk) → ((t : Talk) → In t ts → isTalk a m h t ≡ false) → comesIn r now a m h n ts ≡ false
+unfolding comesIn
+comes-in-none r now a m h n [] none = refl
+comes-in-none r now a m h n (t ∷ ts) none =
+    cond-false (isTalk a m h t) _ _ (none t (List·Memᴰ·head refl)) ∙ comes-in-none r now a m h n ts (λ u k. none u (List·Memᴰ·tail k))
+
+-- a change is of one talk, and of no other
+pub change-splits : (m : ℕ) (f : Talk → Talk) (ts : List Talk) (t : Talk) → Distinct SameTag ts → In t ts → t .mine ≡ m →
+    (before : List Talk) × (after : List Talk) × (ts ≡ before ++ (t ∷ after)) × (change m f ts ≡ before ++ (f t ∷ after))
+unfolding change Distinct
+change-splits m f [] t d i e = absurd (List·Memᴰ·not-nil i)
+change-splits m f (u ∷ us) t d i e = ⊎-elim here (λ k. there k (change-splits m f us t (d .1) k e)) (List·Memᴰ·cases-cons i)
+  where
+    Result : Type 0
+    Result = (before : List Talk) × (after : List Talk) × (u ∷ us ≡ before ++ (t ∷ after)) × (cond (eqb (u .mine) m) (f u ∷ us) (u ∷ change m f us) ≡ before ++ (f t ∷ after))
+    here : t ≡ u → Result
+    here s =
+        ([],
+         us,
+         ap (λ z. z ∷ us) (sym s),
+         cond-true (eqb (u .mine) m) _ _ (eq-eqb (u .mine) m (ap (λ (z : Talk). z .mine) (sym s) ∙ e)) ∙ ap (λ z. f z ∷ us) (sym s))
+    there : In t us → ((before : List Talk) × (after : List Talk) × (us ≡ before ++ (t ∷ after)) × (change m f us ≡ before ++ (f t ∷ after))) → Result
+    there k rest =
+        (u ∷ rest .0,
+         rest .1,
+         ap (λ z. u ∷ z) (rest .2),
+         cond-false (eqb (u .mine) m) _ _ (ne-eqb (u .mine) m (λ s. d .0 t k (s ∙ sym e))) ∙ ap (λ z. u ∷ z) (rest .3))
