@@ -7,3 +7,5 @@ pub mod Origins
 pub mod Nets
 pub mod Can
 pub mod Whole
+pub mod Stories
+pub mod Refines

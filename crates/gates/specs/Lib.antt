@@ -2,3 +2,5 @@ pub mod Lists
 pub mod Talk
 pub mod World
 pub mod Promise
+pub mod Stories
+pub mod Code

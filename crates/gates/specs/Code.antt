@@ -1,0 +1,131 @@
+-- What a gate's code must be, for the promise to hold of it: its memory, its calls, for which abstract gate a memory stands, and which events each call is.
+-- Assumes nothing.
+use mathlib.Core.Path.{_≡_}
+use mathlib.Core.Bool.{Bool, true, false}
+use mathlib.Core.List.{List, [], _∷_, _++_}
+use Prim.Native.Nat.{ℕ, zero, suc}
+use Rattle.gates.specs.Lists.{At}
+use Rattle.gates.specs.Talk.{Rules, isIn}
+use Rattle.gates.specs.World.{Word, Hello, Reply, Packet, Empty, Gate, Note, World, Ev, Tick, Greets, Puts, Lies, Brings, Restarts, Drops, Stays, changed, emptyGate, isNew, world}
+use Rattle.gates.specs.Promise.{lied}
+
+-- What a call did: the memory after it; the words that went out, what was put in and what came out by it, and the tags that it drew, each latest first.
+pub record Did (S : Type 0) : Type 0 where
+  pub after : S
+  pub sent : List Word
+  pub put : List Note
+  pub out : List Note
+  pub drew : List ℕ
+
+-- the event is gate a's own; code does not lie
+abbrev pub OfGate : ℕ → Ev → Type 0
+OfGate a (Tick b) = b ≡ a
+OfGate a (Greets b e t) = b ≡ a
+OfGate a (Puts b x) = b ≡ a
+OfGate a (Lies b e x) = ⊥
+OfGate a (Brings e i t) = e ≡ a
+OfGate a (Restarts b) = b ≡ a
+OfGate a (Drops b m) = b ≡ a
+OfGate a (Stays b m) = b ≡ a
+
+-- all of these events are
+unfoldable pub AllOfGate : ℕ → List Ev → Type 0
+AllOfGate a [] = Unit {0}
+AllOfGate a (e ∷ es) = OfGate a e × AllOfGate a es
+
+-- these tags may be drawn one after the other: none is 0, none was drawn before, none stands here twice
+unfoldable pub AllNew : List ℕ → World → Type 0
+AllNew [] w = Unit {0}
+AllNew (t ∷ ts) w = (isNew t w ≡ true) × (isIn t ts ≡ false) × AllNew ts w
+
+-- From world w to world v gate a did just this: its memory stands for itself, and the net, what was put in, what came out and what was drawn grew by what the call says.
+pub record Follows {S : Type 0} (Stands : S → ℕ → Gate → Type 0) (a : ℕ) (w v : World) (d : Did S) : Type 0 where
+  pub stands : Stands (d .after) (v .now a) (v .gates a)
+  pub net-so : v .net ≡ d .sent ++ w .net
+  pub put-so : v .put ≡ d .put ++ w .put
+  pub out-so : v .out ≡ d .out ++ w .out
+  pub drawn-so : v .drawn ≡ d .drew ++ w .drawn
+
+-- A gate's code, the same for all gates: each call takes the gate's number. Its contracts say that it does what `does` and `hears` say.
+pub record Code (r : Rules) : Type 1 where
+  -- a gate's memory, and what its owner can ask of it
+  pub State : Type 0
+  pub Call : Type 0
+  -- the tags that a call may draw
+  pub offers : Call → List ℕ
+  -- what a call does, and what a word that is brought does, with the tags that may be drawn for it
+  pub does : (a : ℕ) → Call → State → Did State
+  pub hears : (a : ℕ) → Word → (tags : List ℕ) → State → Did State
+  -- for which clock and abstract gate a memory stands: a relation, since code forgets what can no longer matter
+  pub Stands : (a : ℕ) → State → ℕ → Gate → Type 0
+  pub first : ℕ → State
+  pub first-stands : (a : ℕ) → Stands a (first a) 1 emptyGate
+  -- the events, latest first, that a call is, and that a word brought from this place of the net is
+  pub doing : (a : ℕ) → Call → State → List Ev
+  pub hearing : (a : ℕ) → Word → (tags : List ℕ) → State → (place : ℕ) → List Ev
+  pub doing-own : (a : ℕ) (c : Call) (s : State) → AllOfGate a (doing a c s)
+  pub hearing-own : (a : ℕ) (x : Word) (ts : List ℕ) (s : State) (i : ℕ) → AllOfGate a (hearing a x ts s i)
+  -- in every run whose gate the memory stands for, the call does what those events do
+  pub does-so : (es : List Ev) (a : ℕ) (c : Call) (s : State) → Stands a s (world r es .now a) (world r es .gates a) → AllNew (offers c) (world r es) →
+      Follows (Stands a) a (world r es) (world r (doing a c s ++ es)) (does a c s)
+  pub hears-so : (es : List Ev) (a : ℕ) (x : Word) (ts : List ℕ) (s : State) (i : ℕ) → Stands a s (world r es .now a) (world r es .gates a) → At i x (world r es .net) → AllNew ts (world r es) →
+      Follows (Stands a) a (world r es) (world r (hearing a x ts s i ++ es)) (hears a x ts s)
+
+-- Any number of gates that run this code, and a net that keeps every word and brings any of them to anybody.
+module _ (r : Rules) (c : Code r) where
+  -- gates' memories, all words ever sent, all that was put in and came out, and all tags drawn
+  pub record Field : Type 0 where
+    pub states : ℕ → c .State
+    pub net : List Word
+    pub put : List Note
+    pub out : List Note
+    pub drawn : List ℕ
+
+  -- something is asked of a gate; or the word at a place of the net is brought to one, with tags to draw
+  pub data Act : Type 0 where
+    Asks : (a : ℕ) → c .Call → Act
+    Brought : (a place : ℕ) → List ℕ → Act
+
+  abbrev pub did : ℕ → Did (c .State) → Field → Field
+  did a d f =
+      record {
+          states = changed a (d .after) (f .states);
+          net = d .sent ++ f .net;
+          put = d .put ++ f .put;
+          out = d .out ++ f .out;
+          drawn = d .drew ++ f .drawn }
+
+  unfoldable pub bringsTo : (a place : ℕ) → List ℕ → List Word → Field → Field
+  bringsTo a i ts [] f = f
+  bringsTo a zero ts (x ∷ xs) f = did a (c .hears a x ts (f .states a)) f
+  bringsTo a (suc i) ts (x ∷ xs) f = bringsTo a i ts xs f
+
+  -- the gates and the net after a list of acts, the latest first
+  unfoldable pub play : List Act → Field
+  play [] = record { states = c .first; net = []; put = []; out = []; drawn = [] }
+  play (Asks a x ∷ acts) = did a (c .does a x (play acts .states a)) (play acts)
+  play (Brought a i ts ∷ acts) = bringsTo a i ts (play acts .net) (play acts)
+
+  -- none of these tags is 0, was drawn before, or stands here twice
+  unfoldable pub NewIn : List ℕ → List ℕ → Type 0
+  NewIn [] drawn = Unit {0}
+  NewIn (t ∷ ts) drawn = (isIn t drawn ≡ false) × (t ≡ 0 → ⊥) × (isIn t ts ≡ false) × NewIn ts drawn
+
+  -- every tag that is offered is new
+  unfoldable pub Drawing : List Act → Type 0
+  Drawing [] = Unit {0}
+  Drawing (Asks a x ∷ acts) = NewIn (c .offers x) (play acts .drawn) × Drawing acts
+  Drawing (Brought a i ts ∷ acts) = NewIn ts (play acts .drawn) × Drawing acts
+
+  -- the gates and the net are those of the world after these events, in which nobody lies
+  pub record Plays (f : Field) (es : List Ev) : Type 0 where
+    pub stands : (a : ℕ) → c .Stands a (f .states a) (world r es .now a) (world r es .gates a)
+    pub net-so : world r es .net ≡ f .net
+    pub put-so : world r es .put ≡ f .put
+    pub out-so : world r es .out ≡ f .out
+    pub drawn-so : world r es .drawn ≡ f .drawn
+    pub honest : (a : ℕ) → lied a es ≡ false
+
+-- Whatever gates with such code and a net do, while drawn tags are new, is a run of the abstract protocol: so its promise holds of them.
+abbrev pub CodeKeeps : Type 1
+CodeKeeps = (r : Rules) (c : Code r) (acts : List (Act r c)) → Drawing r c acts → (es : List Ev) × Plays r c (play r c acts) es
