@@ -50,14 +50,15 @@ module _ (r : Rules) (a e t y : ℕ) (two : a ≡ e → ⊥) (before : World) wh
       _
       w
       (and-from
-       (eqb (r .owner (p .from)) a)
-       (not (eqb (r .owner (p .to)) a))
-       (eq-eqb (r .owner (p .from)) a from)
-       (not-from-false (eqb (r .owner (p .to)) a) (ne-eqb (r .owner (p .to)) a (λ s. two (sym s ∙ to))))) ∙
+      (eqb (r .owner (p .from)) a)
+      (not (eqb (r .owner (p .to)) a))
+      (eq-eqb (r .owner (p .from)) a from)
+      (not-from-false (eqb (r .owner (p .to)) a) (ne-eqb (r .owner (p .to)) a (λ s. two (sym s ∙ to))))) ∙
       ap (λ f. sends a p f w) found
     where
       t′ : Talk
       t′ = used e t y (w .now a) k
+
       found : forSending r (w .now a) (r .owner (p .to)) (w .gates a .talks) ≡ This t′
       found =
           ap (forSending r (w .now a) (r .owner (p .to))) (h .at-a) ∙
@@ -71,11 +72,12 @@ module _ (r : Rules) (a e t y : ℕ) (two : a ≡ e → ⊥) (before : World) wh
   unfolding change
   emitted k w p h =
       record {
-          rest-a = h .rest-a;
-          rest-e = h .rest-e;
-          at-a = ap (λ (g : Gate). g .talks) (changed-here a g′ (w .gates)) ∙ (ap (change t sentOne) (h .at-a) ∙ cond-true (eqb t t) _ _ (self t));
-          at-e = ap (λ (g : Gate). g .talks) (changed-there a g′ (w .gates) e (λ s. two (sym s))) ∙ h .at-e;
-          out-so = h .out-so }
+        rest-a = h .rest-a;
+        rest-e = h .rest-e;
+        at-a = ap (λ (g : Gate). g .talks) (changed-here a g′ (w .gates)) ∙ (ap (change t sentOne) (h .at-a) ∙ cond-true (eqb t t) _ _ (self t));
+        at-e = ap (λ (g : Gate). g .talks) (changed-there a g′ (w .gates) e (λ s. two (sym s))) ∙ h .at-e;
+        out-so = h .out-so;
+      }
     where
       g′ : Gate
       g′ = with-talks (change t sentOne (w .gates a .talks)) (w .gates a)
@@ -105,14 +107,17 @@ module _ (r : Rules) (a e t y : ℕ) (two : a ≡ e → ⊥) (before : World) wh
   comes-out k w x h less from to =
       ap (λ z. step r (Brings e 0 0) z .out) (put-is k w x h less from to) ∙
       (ap (λ (z : World). z .out) (brings-at r e 0 0 (Packet a e t y (suc k) x) (w′ .net) w′ refl ∙ cond-true (takes r e 0 (Packet a e t y (suc k) x) w′) _ w′ taken-so) ∙
-       ap (λ z. note e a y t (suc k) x ∷ z) (h′ .out-so))
+      ap (λ z. note e a y t (suc k) x ∷ z) (h′ .out-so))
     where
       w′ : World
       w′ = emits a (used e t y (w .now a) k) (Packet a e t y (suc k) x) (note a e t y (suc k) x ∷ []) w
+
       h′ : Ready (suc k) w′
       h′ = emitted k w x h
+
       t′ : Talk
       t′ = newTalk a y t (w .now e) false
+
       may : mayCome r (w .now e) (suc k) t′ ≡ true
       may =
           and-from
@@ -120,19 +125,21 @@ module _ (r : Rules) (a e t y : ℕ) (two : a ≡ e → ⊥) (before : World) wh
           (lives r (w .now e) t′ && (ltb 0 (suc k + r .window) && true))
           (lt-ltb 0 (suc k) (omega arith))
           (and-from
-           (lives r (w .now e) t′)
-           (ltb 0 (suc k + r .window) && true)
-           (le-leb (w .now e) (w .now e + r .life) (omega arith))
-           (and-from (ltb 0 (suc k + r .window)) true (lt-ltb 0 (suc k + r .window) (omega arith)) refl))
+          (lives r (w .now e) t′)
+          (ltb 0 (suc k + r .window) && true)
+          (le-leb (w .now e) (w .now e + r .life) (omega arith))
+          (and-from (ltb 0 (suc k + r .window)) true (lt-ltb 0 (suc k + r .window) (omega arith)) refl))
+
       comes : comesIn r (w .now e) a y t (suc k) (w′ .gates e .talks) ≡ true
       comes =
           ap (comesIn r (w .now e) a y t (suc k)) (h′ .at-e) ∙
           (cond-true
-           (isTalk a y t t′)
-           (mayCome r (w .now e) (suc k) t′)
-           (comesIn r (w .now e) a y t (suc k) (h′ .rest-e))
-           (and-from (eqb a a) (eqb y y && eqb t t) (self a) (and-from (eqb y y) (eqb t t) (self y) (self t))) ∙
-           may)
+          (isTalk a y t t′)
+          (mayCome r (w .now e) (suc k) t′)
+          (comesIn r (w .now e) a y t (suc k) (h′ .rest-e))
+          (and-from (eqb a a) (eqb y y && eqb t t) (self a) (and-from (eqb y y) (eqb t t) (self y) (self t))) ∙
+          may)
+
       taken-so : takes r e 0 (Packet a e t y (suc k) x) w′ ≡ true
       taken-so =
           and-from
@@ -140,10 +147,10 @@ module _ (r : Rules) (a e t y : ℕ) (two : a ≡ e → ⊥) (before : World) wh
           (comesIn r (w .now e) a y t (suc k) (w′ .gates e .talks) && (eqb (r .owner (x .from)) a && eqb (r .owner (x .to)) e))
           (self e)
           (and-from
-           (comesIn r (w .now e) a y t (suc k) (w′ .gates e .talks))
-           (eqb (r .owner (x .from)) a && eqb (r .owner (x .to)) e)
-           comes
-           (and-from (eqb (r .owner (x .from)) a) (eqb (r .owner (x .to)) e) (eq-eqb _ a from) (eq-eqb _ e to)))
+          (comesIn r (w .now e) a y t (suc k) (w′ .gates e .talks))
+          (eqb (r .owner (x .from)) a && eqb (r .owner (x .to)) e)
+          comes
+          (and-from (eqb (r .owner (x .from)) a) (eqb (r .owner (x .to)) e) (eq-eqb _ a from) (eq-eqb _ e to)))
 
 -- hello and reply of a new tick
 module _ (r : Rules) (a e t y : ℕ) (two : a ≡ e → ⊥) (w : World) (v : Inv r w) (new-t : isNew t w ≡ true) (new-y : isNew y w ≡ true) (ty : t ≡ y → ⊥) where
@@ -191,9 +198,9 @@ module _ (r : Rules) (a e t y : ℕ) (two : a ≡ e → ⊥) (w : World) (v : In
       (w₂ .gates e .lastHello a)
       at
       (let p : w₂ .gates e .lastHello a ≡ w .gates e .lastHello a = ap (λ (g : Gate). g .lastHello a) e₂ in
-       let q : w .gates e .lastHello a ≤ w .now a = v .kept .hellos e a in
-       let s : at ≡ suc (w .now a) = at-is in
-       omega arith)
+      let q : w .gates e .lastHello a ≤ w .now a = v .kept .hellos e a in
+      let s : at ≡ suc (w .now a) = at-is in
+      omega arith)
 
   hello-so : step r (Brings e 0 y) w₂ ≡ w₃
   unfolding At
@@ -255,13 +262,13 @@ module _ (r : Rules) (es : List Ev) (v : Inv r (world r es)) (x : Inner) (ps : L
   can-a =
       ap (λ (z : World). z .gates a .talks) after ∙
       (talks-a r a e t y two (world r es) v new-t new-y ty ∙
-       ap (λ n. newTalk e t y n true ∷ world r es .gates a .talks) (at-is r a e t y two (world r es) v new-t new-y ty))
+      ap (λ n. newTalk e t y n true ∷ world r es .gates a .talks) (at-is r a e t y two (world r es) v new-t new-y ty))
 
   pub can-e : world r (greeting a e t y ++ es) .gates e .talks ≡ newTalk a y t (world r es .now e) false ∷ world r es .gates e .talks
   can-e =
       ap (λ (z : World). z .gates e .talks) after ∙
       (talks-e r a e t y two (world r es) v new-t new-y ty ∙
-       ap (λ n. newTalk a y t n false ∷ world r es .gates e .talks) (now-e r a e t y two (world r es) v new-t new-y ty))
+      ap (λ n. newTalk a y t n false ∷ world r es .gates e .talks) (now-e r a e t y two (world r es) v new-t new-y ty))
 
   pub can-out : world r (passing a e t y ps x ++ es) .out ≡ note e a y t (suc (length ps)) x ∷ world r es .out
   unfolding world

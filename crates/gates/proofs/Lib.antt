@@ -8,4 +8,5 @@ pub mod Nets
 pub mod Can
 pub mod Whole
 pub mod Stories
+pub mod Timer
 pub mod Refines

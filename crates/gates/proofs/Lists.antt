@@ -36,6 +36,7 @@ in-at {A} x (y ∷ ys) m = ⊎-elim first (λ k. later (in-at x ys k)) (List·Me
   where
     first : x ≡ y → (i : ℕ) × At i x (y ∷ ys)
     first e = (0, sym e)
+
     later : ((i : ℕ) × At i x ys) → (i : ℕ) × At i x (y ∷ ys)
     later h = (suc (h .0), h .1)
 

@@ -49,13 +49,14 @@ words-sent : (P : Word → Type 0) (r : Rules) (a e : ℕ) (x : Inner) (f : Foun
 words-sent P r a e x NoTalk w i p h = h
 words-sent P r a e x (This t) w i p h =
     record {
-        each =
-            each-cons
-            P
-            (Packet a (t .with′) (t .mine) (t .theirs) (suc (t .sent)) x)
-            (w .net)
-            (subst (λ z. P (Packet a z (t .mine) (t .theirs) (suc (t .sent)) x)) (sym (i .1 .0)) (p (t .mine) (t .theirs) (suc (t .sent))))
-            (h .each) }
+      each =
+          each-cons
+          P
+          (Packet a (t .with′) (t .mine) (t .theirs) (suc (t .sent)) x)
+          (w .net)
+          (subst (λ z. P (Packet a z (t .mine) (t .theirs) (suc (t .sent)) x)) (sym (i .1 .0)) (p (t .mine) (t .theirs) (suc (t .sent))))
+          (h .each);
+    }
 
 words-stay : (P : Word → Type 0) (r : Rules) (a : ℕ) (f : Found) (w : World) → ((e k h n : ℕ) → P (Empty a e k h n)) → Words P w → Words P (stays r a f w)
 words-stay P r a NoTalk w p h = h
@@ -79,8 +80,8 @@ words-step P r (Puts a x) w p h =
     w
     (Words P)
     (λ c.
-     let from = eqb-true (r .owner (x .from)) a (and-parts (eqb (r .owner (x .from)) a) (not (eqb (r .owner (x .to)) a)) c .0) in
-     words-sent P r a (r .owner (x .to)) x _ w (for-sending r (w .now a) (r .owner (x .to)) (w .gates a .talks)) (λ m k n. p m k n from) h)
+    let from = eqb-true (r .owner (x .from)) a (and-parts (eqb (r .owner (x .from)) a) (not (eqb (r .owner (x .to)) a)) c .0) in
+    words-sent P r a (r .owner (x .to)) x _ w (for-sending r (w .now a) (r .owner (x .to)) (w .gates a .talks)) (λ m k n. p m k n from) h)
     (λ c. h)
 words-step P r (Lies a e x) w p h = words-sent P r a e x _ w (for-sending r (w .now a) e (w .gates a .talks)) p h
 words-step P r (Brings e i t) w p h = words-brought P r e i t (w .net) w p h
@@ -203,10 +204,11 @@ pub taking : AllTaking
 unfolding world
 taking r es =
     record {
-        accepted =
-            λ e i y x h t.
-            ap (λ (z : World). z .out) (brings-at r e i y x (world r es .net) (world r es) h ∙ cond-true (takes r e y x (world r es)) _ _ t) ∙
-            taken-out e y x (world r es);
-        refused = λ e i y x h t. brings-at r e i y x (world r es .net) (world r es) h ∙ cond-false (takes r e y x (world r es)) _ _ t;
-        nothing = λ e i y h. brings-none r e i y (world r es .net) (world r es) h;
-        no-other = λ v d. no-other r (world r es) v d .same }
+      accepted =
+          λ e i y x h t.
+          ap (λ (z : World). z .out) (brings-at r e i y x (world r es .net) (world r es) h ∙ cond-true (takes r e y x (world r es)) _ _ t) ∙
+          taken-out e y x (world r es);
+      refused = λ e i y x h t. brings-at r e i y x (world r es .net) (world r es) h ∙ cond-false (takes r e y x (world r es)) _ _ t;
+      nothing = λ e i y h. brings-none r e i y (world r es .net) (world r es) h;
+      no-other = λ v d. no-other r (world r es) v d .same;
+    }

@@ -143,40 +143,42 @@ apart r es =
     let w = world r es in
     let v = inv r es in
     record {
-        tags = tags-apart r w v;
-        pairs = talks-face r w v;
-        one-side =
-            λ a e f i k t u y it p q s l.
-            let fu = talks-face r w v a e t u it (at-in i u (w .gates e .talks) p) s in
-            let fy = talks-face r w v a f t y it (at-in k y (w .gates f .talks) q) l in
-            tags-apart r w v e f i k u y p q (fu .2 ∙ sym (fy .2));
-        range = λ p i. let s = v .kept .words (packetOf p) (v .kept .puts-sent p i) in (s .0, s .1);
-        numbers =
-            λ i k p q h l e n. distinct-place SameNote (λ x y s. (sym (s .0), sym (s .1))) (w .put) (v .kept .puts-apart) i k p q h l (e, n) }
+      tags = tags-apart r w v;
+      pairs = talks-face r w v;
+      one-side =
+          λ a e f i k t u y it p q s l.
+          let fu = talks-face r w v a e t u it (at-in i u (w .gates e .talks) p) s in
+          let fy = talks-face r w v a f t y it (at-in k y (w .gates f .talks) q) l in
+          tags-apart r w v e f i k u y p q (fu .2 ∙ sym (fy .2));
+      range = λ p i. let s = v .kept .words (packetOf p) (v .kept .puts-sent p i) in (s .0, s .1);
+      numbers =
+          λ i k p q h l e n. distinct-place SameNote (λ x y s. (sym (s .0), sym (s .1))) (w .put) (v .kept .puts-apart) i k p q h l (e, n);
+    }
 
 pub proper : AllProper
 proper r es =
     let w = world r es in
     let v = inv r es in
     record {
-        no-zero = λ x i. no-zero r w v x (v .kept .words x i);
-        not-to-self = λ x i. not-to-self r w v x (v .kept .words x i);
-        once = word-once r w v;
-        on-time = λ a e t n i. v .kept .words _ i .3;
-        numbers = λ i k m h h′ n x y p q o l. use-place r w v i k m n x y p q (of-talk-uses r w v m h n x o) (of-talk-uses r w v m h′ n y l);
-        opener =
-            λ m m′ h n n′ x y i k o l.
-            opening
-            r
-            w
-            v
-            (byOf x)
-            (forOf x)
-            m
-            h
-            (byOf y)
-            (forOf y)
-            m′
-            (of-talk-origin r w v m h n x (v .kept .words x i) o)
-            (of-talk-origin r w v m′ h n′ y (v .kept .words y k) l);
-        below = λ k g x i. words-below r w v k (λ a e t n j. hellos-below r k es g .each _ j) x i (v .kept .words x i) }
+      no-zero = λ x i. no-zero r w v x (v .kept .words x i);
+      not-to-self = λ x i. not-to-self r w v x (v .kept .words x i);
+      once = word-once r w v;
+      on-time = λ a e t n i. v .kept .words _ i .3;
+      numbers = λ i k m h h′ n x y p q o l. use-place r w v i k m n x y p q (of-talk-uses r w v m h n x o) (of-talk-uses r w v m h′ n y l);
+      opener =
+          λ m m′ h n n′ x y i k o l.
+          opening
+          r
+          w
+          v
+          (byOf x)
+          (forOf x)
+          m
+          h
+          (byOf y)
+          (forOf y)
+          m′
+          (of-talk-origin r w v m h n x (v .kept .words x i) o)
+          (of-talk-origin r w v m′ h n′ y (v .kept .words y k) l);
+      below = λ k g x i. words-below r w v k (λ a e t n j. hellos-below r k es g .each _ j) x i (v .kept .words x i);
+    }

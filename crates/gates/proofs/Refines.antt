@@ -99,39 +99,41 @@ module _ (r : Rules) (c : Code r) where
   all-new : (ts drawn : List ℕ) (w : World) → w .drawn ≡ drawn → NewIn r c ts drawn → AllNew ts w
   unfolding NewIn AllNew
   all-new [] drawn w s n = tt
-  all-new (t ∷ ts) drawn w s n =
-      (and-from
-       (not (isIn t (w .drawn)))
-       (not (eqb t 0))
-       (not-from-false (isIn t (w .drawn)) (subst (λ z. isIn t z ≡ false) (sym s) (n .0)))
-       (not-from-false (eqb t 0) (ne-eqb t 0 (n .1))),
-       n .2,
-       all-new ts drawn w s (n .3))
+  all-new (t ∷ ts) drawn w s n = (
+    and-from
+        (not (isIn t (w .drawn)))
+        (not (eqb t 0))
+        (not-from-false (isIn t (w .drawn)) (subst (λ z. isIn t z ≡ false) (sym s) (n .0)))
+        (not-from-false (eqb t 0) (ne-eqb t 0 (n .1))),
+    n .2,
+    all-new ts drawn w s (n .3),
+  )
 
   -- one gate did what its events did: the field goes on standing for the world
   did-plays : (f : Field r c) (es vs : List Ev) (a : ℕ) (d : Did (c .State)) → Plays r c f es → AllOfGate a vs → Follows (c .Stands a) a (world r es) (world r (vs ++ es)) d → Plays r c (did r c a d f) (vs ++ es)
   did-plays f es vs a d p own fl =
       record {
-          stands =
-              λ j.
-              changed-both
-              (λ s. c .Stands j s (world r (vs ++ es) .now j) (world r (vs ++ es) .gates j))
-              a
-              (d .after)
-              (f .states)
-              j
-              (λ e. subst (λ k. c .Stands k (d .after) (world r (vs ++ es) .now k) (world r (vs ++ es) .gates k)) (sym e) (fl .stands))
-              (λ ne.
-               let u = run-there r j a vs es own ne in
-               subst
-               (λ g. c .Stands j (f .states j) (world r (vs ++ es) .now j) g)
-               (sym (u .gate-so))
-               (subst (λ n. c .Stands j (f .states j) n (world r es .gates j)) (sym (u .now-so)) (p .stands j)));
-          net-so = fl .net-so ∙ ap (λ z. d .sent ++ z) (p .net-so);
-          put-so = fl .put-so ∙ ap (λ z. d .put ++ z) (p .put-so);
-          out-so = fl .out-so ∙ ap (λ z. d .out ++ z) (p .out-so);
-          drawn-so = fl .drawn-so ∙ ap (λ z. d .drew ++ z) (p .drawn-so);
-          honest = λ b. run-honest a b vs es own (p .honest b) }
+        stands =
+            λ j.
+            changed-both
+            (λ s. c .Stands j s (world r (vs ++ es) .now j) (world r (vs ++ es) .gates j))
+            a
+            (d .after)
+            (f .states)
+            j
+            (λ e. subst (λ k. c .Stands k (d .after) (world r (vs ++ es) .now k) (world r (vs ++ es) .gates k)) (sym e) (fl .stands))
+            (λ ne.
+            let u = run-there r j a vs es own ne in
+            subst
+            (λ g. c .Stands j (f .states j) (world r (vs ++ es) .now j) g)
+            (sym (u .gate-so))
+            (subst (λ n. c .Stands j (f .states j) n (world r es .gates j)) (sym (u .now-so)) (p .stands j)));
+        net-so = fl .net-so ∙ ap (λ z. d .sent ++ z) (p .net-so);
+        put-so = fl .put-so ∙ ap (λ z. d .put ++ z) (p .put-so);
+        out-so = fl .out-so ∙ ap (λ z. d .out ++ z) (p .out-so);
+        drawn-so = fl .drawn-so ∙ ap (λ z. d .drew ++ z) (p .drawn-so);
+        honest = λ b. run-honest a b vs es own (p .honest b);
+      }
 
   -- the word at a place is heard, or there is none
   brought-cases : (a i : ℕ) (ts : List ℕ) (xs : List Word) (f : Field r c) →
@@ -147,48 +149,51 @@ module _ (r : Rules) (c : Code r) where
       ([], record { stands = c .first-stands; net-so = refl; put-so = refl; out-so = refl; drawn-so = refl; honest = λ a. refl })
   plays (Asks a x ∷ acts) d =
       let h = plays acts (d .1) in
-      let s = play r c acts .states a in
-      (c .doing a x s ++ h .0,
-       did-plays
-       (play r c acts)
-       (h .0)
-       (c .doing a x s)
-       a
-       (c .does a x s)
-       (h .1)
-       (c .doing-own a x s)
-       (c .does-so (h .0) a x s (h .1 .stands a) (all-new (c .offers x) (play r c acts .drawn) (world r (h .0)) (h .1 .drawn-so) (d .0))))
+      let s = play r c acts .states a in (
+        c .doing a x s ++ h .0,
+        did-plays
+            (play r c acts)
+            (h .0)
+            (c .doing a x s)
+            a
+            (c .does a x s)
+            (h .1)
+            (c .doing-own a x s)
+            (c .does-so (h .0) a x s (h .1 .stands a) (all-new (c .offers x) (play r c acts .drawn) (world r (h .0)) (h .1 .drawn-so) (d .0))),
+      )
   plays (Brought a i ts ∷ acts) d = of (plays acts (d .1)) (brought-cases a i ts (play r c acts .net) (play r c acts))
     where
       f : Field r c
       f = play r c acts
+
       of : ((es : List Ev) × Plays r c f es) →
           (((x : Word) × At i x (f .net) × (bringsTo r c a i ts (f .net) f ≡ did r c a (c .hears a x ts (f .states a)) f)) ⊎ (bringsTo r c a i ts (f .net) f ≡ f)) →
           (es : List Ev) × Plays r c (bringsTo r c a i ts (f .net) f) es
       of h (inl y) =
-          let s = f .states a in
-          (c .hearing a (y .0) ts s i ++ h .0,
-           subst
-           (λ z. Plays r c z (c .hearing a (y .0) ts s i ++ h .0))
-           (sym (y .2))
-           (did-plays
-            f
-            (h .0)
-            (c .hearing a (y .0) ts s i)
-            a
-            (c .hears a (y .0) ts s)
-            (h .1)
-            (c .hearing-own a (y .0) ts s i)
-            (c .hears-so
-             (h .0)
-             a
-             (y .0)
-             ts
-             s
-             i
-             (h .1 .stands a)
-             (subst (λ z. At i (y .0) z) (sym (h .1 .net-so)) (y .1))
-             (all-new ts (f .drawn) (world r (h .0)) (h .1 .drawn-so) (d .0)))))
+          let s = f .states a in (
+            c .hearing a (y .0) ts s i ++ h .0,
+            subst
+                (λ z. Plays r c z (c .hearing a (y .0) ts s i ++ h .0))
+                (sym (y .2))
+                (did-plays
+                f
+                (h .0)
+                (c .hearing a (y .0) ts s i)
+                a
+                (c .hears a (y .0) ts s)
+                (h .1)
+                (c .hearing-own a (y .0) ts s i)
+                (c .hears-so
+                (h .0)
+                a
+                (y .0)
+                ts
+                s
+                i
+                (h .1 .stands a)
+                (subst (λ z. At i (y .0) z) (sym (h .1 .net-so)) (y .1))
+                (all-new ts (f .drawn) (world r (h .0)) (h .1 .drawn-so) (d .0)))),
+          )
       of h (inr e) = (h .0, subst (λ z. Plays r c z (h .0)) (sym e) (h .1))
 
 pub code-keeps : CodeKeeps

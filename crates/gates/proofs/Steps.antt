@@ -80,40 +80,45 @@ module _ (r : Rules) (w : World) (v : Inv r w) where
   tick-inv : (a : ℕ) → Inv r (step r (Tick a) w)
   tick-inv a =
       record {
-          kept =
-              record {
-                  words = λ x i. sound-grows r w (step r (Tick a) w) grows x (v .kept .words x i);
-                  draws = v .kept .draws;
-                  answers = v .kept .answers;
-                  uses = v .kept .uses;
-                  puts-sent = v .kept .puts-sent;
-                  puts-apart = v .kept .puts-apart;
-                  outs-owned = v .kept .outs-owned;
-                  outs-apart = v .kept .outs-apart;
-                  hellos = λ e b. le-trans (v .kept .hellos e b) (later b) };
-          memory = v .memory }
+        kept =
+            record {
+              words = λ x i. sound-grows r w (step r (Tick a) w) grows x (v .kept .words x i);
+              draws = v .kept .draws;
+              answers = v .kept .answers;
+              uses = v .kept .uses;
+              puts-sent = v .kept .puts-sent;
+              puts-apart = v .kept .puts-apart;
+              outs-owned = v .kept .outs-owned;
+              outs-apart = v .kept .outs-apart;
+              hellos = λ e b. le-trans (v .kept .hellos e b) (later b);
+            };
+        memory = v .memory;
+      }
     where
       later : (b : ℕ) → w .now b ≤ changed a (suc (w .now a)) (w .now) b
       later b = changed-both (λ n. w .now b ≤ n) a (suc (w .now a)) (w .now) b (λ e. let k : w .now b ≡ w .now a = ap (w .now) e in omega arith) (λ ne. (le-refl _))
+
       grows : Grows w (step r (Tick a) w)
       grows =
           record {
-              net-grows = λ x i. i;
-              put-grows = λ p i. i;
-              drawn-grows = λ t e. e;
-              now-grows = later;
-              hello-grows = λ e b. (le-refl _) }
+            net-grows = λ x i. i;
+            put-grows = λ p i. i;
+            drawn-grows = λ t e. e;
+            now-grows = later;
+            hello-grows = λ e b. (le-refl _);
+          }
 
   -- A gate's memory is replaced by one that is true, and no word goes out.
   module _ (a : ℕ) (g : Gate) (good : Memory (w .net) (w .out) a g) (same : (b : ℕ) → g .lastHello b ≡ w .gates a .lastHello b) where
     private-grows : Grows w (becomes a g [] [] w)
     private-grows =
         record {
-            net-grows = λ x i. i;
-            put-grows = λ p i. i;
-            drawn-grows = λ t e. e;
-            now-grows = λ b. (le-refl _);
-            hello-grows = λ j b. last-hello (λ n. w .gates j .lastHello b ≤ n) a b g (w .gates) j (λ e. rest j b e) (le-refl _) }
+          net-grows = λ x i. i;
+          put-grows = λ p i. i;
+          drawn-grows = λ t e. e;
+          now-grows = λ b. (le-refl _);
+          hello-grows = λ j b. last-hello (λ n. w .gates j .lastHello b ≤ n) a b g (w .gates) j (λ e. rest j b e) (le-refl _);
+        }
       where
         rest : (j b : ℕ) → j ≡ a → w .gates j .lastHello b ≤ g .lastHello b
         rest j b e = let k : w .gates j .lastHello b ≡ g .lastHello b = ap (λ z. w .gates z .lastHello b) e ∙ sym (same b) in omega arith
@@ -121,27 +126,29 @@ module _ (r : Rules) (w : World) (v : Inv r w) where
     becomes-inv : Inv r (becomes a g [] [] w)
     becomes-inv =
         record {
-            kept =
-                record {
-                    words = λ x i. sound-grows r w (becomes a g [] [] w) private-grows x (v .kept .words x i);
-                    draws = v .kept .draws;
-                    answers = v .kept .answers;
-                    uses = v .kept .uses;
-                    puts-sent = v .kept .puts-sent;
-                    puts-apart = v .kept .puts-apart;
-                    outs-owned = v .kept .outs-owned;
-                    outs-apart = v .kept .outs-apart;
-                    hellos = λ j b. last-hello (λ n. n ≤ w .now b) a b g (w .gates) j (λ e. subst (λ n. n ≤ w .now b) (sym (same b)) (v .kept .hellos a b)) (v .kept .hellos j b) };
-            memory =
-                λ j.
-                changed-both
-                (Memory (w .net) (w .out) j)
-                a
-                g
-                (w .gates)
-                j
-                (λ e. subst (λ k. Memory (w .net) (w .out) k g) (sym e) good)
-                (λ ne. v .memory j) }
+          kept =
+              record {
+                words = λ x i. sound-grows r w (becomes a g [] [] w) private-grows x (v .kept .words x i);
+                draws = v .kept .draws;
+                answers = v .kept .answers;
+                uses = v .kept .uses;
+                puts-sent = v .kept .puts-sent;
+                puts-apart = v .kept .puts-apart;
+                outs-owned = v .kept .outs-owned;
+                outs-apart = v .kept .outs-apart;
+                hellos = λ j b. last-hello (λ n. n ≤ w .now b) a b g (w .gates) j (λ e. subst (λ n. n ≤ w .now b) (sym (same b)) (v .kept .hellos a b)) (v .kept .hellos j b);
+              };
+          memory =
+              λ j.
+              changed-both
+              (Memory (w .net) (w .out) j)
+              a
+              g
+              (w .gates)
+              j
+              (λ e. subst (λ k. Memory (w .net) (w .out) k g) (sym e) good)
+              (λ ne. v .memory j);
+        }
 
   restarts-inv : (a : ℕ) → Inv r (step r (Restarts a) w)
   restarts-inv a = becomes-inv a g (memory-fewer (w .net) (w .out) a (w .gates a) g (distinct-none SameTag) (λ t i. absurd (List·Memᴰ·not-nil i)) (λ y i. absurd (List·Memᴰ·not-nil i)) (v .memory a)) (λ b. refl)
@@ -155,15 +162,15 @@ module _ (r : Rules) (w : World) (v : Inv r w) where
       a
       (with-talks (withoutTalk m (w .gates a .talks)) (w .gates a))
       (memory-fewer
-       (w .net)
-       (w .out)
-       a
-       (w .gates a)
-       (with-talks (withoutTalk m (w .gates a .talks)) (w .gates a))
-       (distinct-without m (w .gates a .talks) (v .memory a .apart))
-       (λ t i. without-talk m (w .gates a .talks) t i)
-       (λ y i. i)
-       (v .memory a))
+      (w .net)
+      (w .out)
+      a
+      (w .gates a)
+      (with-talks (withoutTalk m (w .gates a .talks)) (w .gates a))
+      (distinct-without m (w .gates a .talks) (v .memory a .apart))
+      (λ t i. without-talk m (w .gates a .talks) t i)
+      (λ y i. i)
+      (v .memory a))
       (λ b. refl)
 
   -- A gate's memory is replaced by one that is true, and a word that draws a new tag goes out.
@@ -173,51 +180,55 @@ module _ (r : Rules) (w : World) (v : Inv r w) where
     says-grows : Grows w (becomes a g (x ∷ []) (t ∷ []) w)
     says-grows =
         record {
-            net-grows = λ y i. List·Memᴰ·tail i;
-            put-grows = λ p i. i;
-            drawn-grows = λ s e. drawn-more t w s e;
-            now-grows = λ b. (le-refl _);
-            hello-grows =
-                λ j b.
-                last-hello
-                (λ n. w .gates j .lastHello b ≤ n)
-                a
-                b
-                g
-                (w .gates)
-                j
-                (λ e. subst (λ k. w .gates k .lastHello b ≤ g .lastHello b) (sym e) (up b))
-                (le-refl _) }
+          net-grows = λ y i. List·Memᴰ·tail i;
+          put-grows = λ p i. i;
+          drawn-grows = λ s e. drawn-more t w s e;
+          now-grows = λ b. (le-refl _);
+          hello-grows =
+              λ j b.
+              last-hello
+              (λ n. w .gates j .lastHello b ≤ n)
+              a
+              b
+              g
+              (w .gates)
+              j
+              (λ e. subst (λ k. w .gates k .lastHello b ≤ g .lastHello b) (sym e) (up b))
+              (le-refl _);
+        }
 
     says-inv : Inv r (becomes a g (x ∷ []) (t ∷ []) w)
     says-inv =
         record {
-            kept =
-                record {
-                    words = each-cons (Sound r (becomes a g (x ∷ []) (t ∷ []) w)) x (w .net) sound (λ y i. sound-grows r w _ says-grows y (v .kept .words y i));
-                    draws = distinct-cons SameDraw x (w .net) (λ y i s. fresh-draw t new y i (subst (λ z. Draws z y) (draws-it (s .0) (s .1)) (s .2))) (v .kept .draws);
-                    answers = distinct-cons SameAnswer x (w .net) answers-new (v .kept .answers);
-                    uses = distinct-cons SameUse x (w .net) (λ y i s. uses-none (s .0) (s .1) (s .2)) (v .kept .uses);
-                    puts-sent = λ p i. List·Memᴰ·tail (v .kept .puts-sent p i);
-                    puts-apart = v .kept .puts-apart;
-                    outs-owned =
-                        λ o i.
-                        record {
-                            word = List·Memᴰ·tail (v .kept .outs-owned o i .word);
-                            source = v .kept .outs-owned o i .source;
-                            goal = v .kept .outs-owned o i .goal };
-                    outs-apart = v .kept .outs-apart;
-                    hellos = λ j b. last-hello (λ n. n ≤ w .now b) a b g (w .gates) j (λ e. on-time b) (v .kept .hellos j b) };
-            memory =
-                λ j.
-                changed-both
-                (Memory (x ∷ w .net) (w .out) j)
-                a
-                g
-                (w .gates)
-                j
-                (λ e. subst (λ k. Memory (x ∷ w .net) (w .out) k g) (sym e) good)
-                (λ ne. memory-net (w .net) (w .out) j (w .gates j) x (λ u n i. uses-none (u .mine) n) (λ y n i. uses-none (y .tag) n) (v .memory j)) }
+          kept =
+              record {
+                words = each-cons (Sound r (becomes a g (x ∷ []) (t ∷ []) w)) x (w .net) sound (λ y i. sound-grows r w _ says-grows y (v .kept .words y i));
+                draws = distinct-cons SameDraw x (w .net) (λ y i s. fresh-draw t new y i (subst (λ z. Draws z y) (draws-it (s .0) (s .1)) (s .2))) (v .kept .draws);
+                answers = distinct-cons SameAnswer x (w .net) answers-new (v .kept .answers);
+                uses = distinct-cons SameUse x (w .net) (λ y i s. uses-none (s .0) (s .1) (s .2)) (v .kept .uses);
+                puts-sent = λ p i. List·Memᴰ·tail (v .kept .puts-sent p i);
+                puts-apart = v .kept .puts-apart;
+                outs-owned =
+                    λ o i.
+                    record {
+                      word = List·Memᴰ·tail (v .kept .outs-owned o i .word);
+                      source = v .kept .outs-owned o i .source;
+                      goal = v .kept .outs-owned o i .goal;
+                    };
+                outs-apart = v .kept .outs-apart;
+                hellos = λ j b. last-hello (λ n. n ≤ w .now b) a b g (w .gates) j (λ e. on-time b) (v .kept .hellos j b);
+              };
+          memory =
+              λ j.
+              changed-both
+              (Memory (x ∷ w .net) (w .out) j)
+              a
+              g
+              (w .gates)
+              j
+              (λ e. subst (λ k. Memory (x ∷ w .net) (w .out) k g) (sym e) good)
+              (λ ne. memory-net (w .net) (w .out) j (w .gates j) x (λ u n i. uses-none (u .mine) n) (λ y n i. uses-none (y .tag) n) (v .memory j));
+        }
 
   -- A hello is made.
   greets-inv : (a e t : ℕ) → (a ≡ e → ⊥) → isNew t w ≡ true →
@@ -239,33 +250,39 @@ module _ (r : Rules) (w : World) (v : Inv r w) where
     where
       p : (isIn t (w .drawn) ≡ false) × (0 < t)
       p = new-parts t w isnew
+
       this : Wait
       this = record { for′ = e; tag = t; at = w .now a }
+
       g : Gate
       g = record { talks = w .gates a .talks; waits = this ∷ w .gates a .waits; lastHello = w .gates a .lastHello }
+
       x : Word
       x = Hello a e t (w .now a)
+
       good : Memory (x ∷ w .net) (w .out) a g
       good =
           record {
-              apart = v .memory a .apart;
-              unmet =
-                  λ u y i j s.
-                  ⊎-elim
-                  (λ (k : y ≡ this). fresh-drew t a (p .0) (subst (λ z. Drew (w .net) a z) (s ∙ ap (λ (z : Wait). z .tag) k) (talk-drew a u i)))
-                  (λ k. v .memory a .unmet u y i k s)
-                  (List·Memᴰ·cases-cons j);
-              talks-had = λ u i. had-net (w .net) (w .out) a u x (λ n k. k) (v .memory a .talks-had u i);
-              waits-had =
-                  each-cons
-                  (Waiting (x ∷ w .net) (w .out) a)
-                  this
-                  (w .gates a .waits)
-                  (record {
-                      said = List·Memᴰ·head refl;
-                      unused = λ y n i u. ⊎-elim (λ (k : y ≡ x). subst (Uses t n) k u) (λ k. fresh-use t n (p .0) y k u) (List·Memᴰ·cases-cons i);
-                      unheard = λ o i s. fresh-out t (p .0) o i s })
-                  (λ y i. waiting-net (w .net) (w .out) a y x (λ n k. k) (v .memory a .waits-had y i)) }
+            apart = v .memory a .apart;
+            unmet =
+                λ u y i j s.
+                ⊎-elim
+                (λ (k : y ≡ this). fresh-drew t a (p .0) (subst (λ z. Drew (w .net) a z) (s ∙ ap (λ (z : Wait). z .tag) k) (talk-drew a u i)))
+                (λ k. v .memory a .unmet u y i k s)
+                (List·Memᴰ·cases-cons j);
+            talks-had = λ u i. had-net (w .net) (w .out) a u x (λ n k. k) (v .memory a .talks-had u i);
+            waits-had =
+                each-cons
+                (Waiting (x ∷ w .net) (w .out) a)
+                this
+                (w .gates a .waits)
+                (record {
+                  said = List·Memᴰ·head refl;
+                  unused = λ y n i u. ⊎-elim (λ (k : y ≡ x). subst (Uses t n) k u) (λ k. fresh-use t n (p .0) y k u) (List·Memᴰ·cases-cons i);
+                  unheard = λ o i s. fresh-out t (p .0) o i s;
+                })
+                (λ y i. waiting-net (w .net) (w .out) a y x (λ n k. k) (v .memory a .waits-had y i));
+          }
 
   -- A hello is taken.
   hello-inv : (e a tag n new : ℕ) → In (Hello a e tag n) (w .net) → w .gates e .lastHello a < n → isNew new w ≡ true → Inv r (taken e new (Hello a e tag n) w)
@@ -286,12 +303,16 @@ module _ (r : Rules) (w : World) (v : Inv r w) where
     where
       p : (isIn new (w .drawn) ≡ false) × (0 < new)
       p = new-parts new w isnew
+
       t : Talk
       t = newTalk a new tag (w .now e) false
+
       g : Gate
       g = record { talks = t ∷ w .gates e .talks; waits = w .gates e .waits; lastHello = changed a n (w .gates e .lastHello) }
+
       x : Word
       x = Reply e a new tag
+
       -- the hello's tick is now the last
       reached : n ≤ changed e g (w .gates) e .lastHello a
       reached =
@@ -300,6 +321,7 @@ module _ (r : Rules) (w : World) (v : Inv r w) where
         where
           last-hello′ : n ≤ g .lastHello a → n ≤ changed e g (w .gates) e .lastHello a
           last-hello′ h = changed-both (λ (k : Gate). n ≤ k .lastHello a) e g (w .gates) e (λ s. h) (λ s. absurd (s refl))
+
       -- had the hello been answered before, its tick would not be above the last
       answers-new : (y : Word) → In y (w .net) → SameAnswer x y → ⊥
       answers-new (Hello b f s k) j q = q .2
@@ -313,27 +335,31 @@ module _ (r : Rules) (w : World) (v : Inv r w) where
           omega arith
       answers-new (Packet b f m h k z) j q = q .2
       answers-new (Empty b f m h k) j q = q .2
+
       good : Memory (x ∷ w .net) (w .out) e g
       good =
           record {
-              apart = distinct-cons SameTag t (w .gates e .talks) (λ u j s. fresh-drew new e (p .0) (subst (λ z. Drew (w .net) e z) (sym s) (talk-drew e u j))) (v .memory e .apart);
-              unmet =
-                  λ u y j k s.
-                  ⊎-elim
-                  (λ (l : u ≡ t). fresh-drew new e (p .0) (subst (λ z. Drew (w .net) e z) (sym s ∙ ap (λ (z : Talk). z .mine) l) (wait-drew e y k)))
-                  (λ l. v .memory e .unmet u y l k s)
-                  (List·Memᴰ·cases-cons j);
-              talks-had =
-                  each-cons
-                  (Had (x ∷ w .net) (w .out) e)
-                  t
-                  (w .gates e .talks)
-                  (record {
-                      origin = answered (List·Memᴰ·head refl);
-                      used = λ y k j u. absurd (⊎-elim (λ (l : y ≡ x). subst (Uses new k) l u) (λ l. fresh-use new k (p .0) y l u) (List·Memᴰ·cases-cons j));
-                      came-out = λ o j s. absurd (fresh-out new (p .0) o j s) })
-                  (λ u j. had-net (w .net) (w .out) e u x (λ k l. l) (v .memory e .talks-had u j));
-              waits-had = λ y j. waiting-net (w .net) (w .out) e y x (λ k l. l) (v .memory e .waits-had y j) }
+            apart = distinct-cons SameTag t (w .gates e .talks) (λ u j s. fresh-drew new e (p .0) (subst (λ z. Drew (w .net) e z) (sym s) (talk-drew e u j))) (v .memory e .apart);
+            unmet =
+                λ u y j k s.
+                ⊎-elim
+                (λ (l : u ≡ t). fresh-drew new e (p .0) (subst (λ z. Drew (w .net) e z) (sym s ∙ ap (λ (z : Talk). z .mine) l) (wait-drew e y k)))
+                (λ l. v .memory e .unmet u y l k s)
+                (List·Memᴰ·cases-cons j);
+            talks-had =
+                each-cons
+                (Had (x ∷ w .net) (w .out) e)
+                t
+                (w .gates e .talks)
+                (record {
+                  origin = answered (List·Memᴰ·head refl);
+                  used = λ y k j u. absurd (⊎-elim (λ (l : y ≡ x). subst (Uses new k) l u) (λ l. fresh-use new k (p .0) y l u) (List·Memᴰ·cases-cons j));
+                  came-out = λ o j s. absurd (fresh-out new (p .0) o j s);
+                })
+                (λ u j. had-net (w .net) (w .out) e u x (λ k l. l) (v .memory e .talks-had u j));
+            waits-had = λ y j. waiting-net (w .net) (w .out) e y x (λ k l. l) (v .memory e .waits-had y j);
+          }
+
       up : (b : ℕ) → w .gates e .lastHello b ≤ g .lastHello b
       up b =
           changed-both
@@ -344,6 +370,7 @@ module _ (r : Rules) (w : World) (v : Inv r w) where
           b
           (λ s. let k : w .gates e .lastHello b ≡ w .gates e .lastHello a = ap (w .gates e .lastHello) s in omega arith)
           (λ s. (le-refl _))
+
       on-time : (b : ℕ) → g .lastHello b ≤ w .now b
       on-time b =
           changed-both
@@ -361,35 +388,43 @@ module _ (r : Rules) (w : World) (v : Inv r w) where
     where
       found : (x : Wait) × In x (w .gates e .waits) × (x .for′ ≡ a) × (x .tag ≡ tagFor)
       found = waits-for (w .now e) a tagFor (w .gates e .waits) h
+
       x : Wait
       x = found .0
+
       waited : Waiting (w .net) (w .out) e x
       waited = v .memory e .waits-had x (found .1)
+
       t : Talk
       t = newTalk a tagFor tag (w .now e) true
+
       g : Gate
       g = record { talks = t ∷ w .gates e .talks; waits = withoutWait tagFor (w .gates e .waits); lastHello = w .gates e .lastHello }
+
       said : In (Hello e a tagFor (x .at)) (w .net)
       said = subst (λ z. In (Hello e a z (x .at)) (w .net)) (found .3) (subst (λ z. In (Hello e z (x .tag) (x .at)) (w .net)) (found .2) (waited .said))
+
       good : Memory (w .net) (w .out) e g
       good =
           record {
-              apart = distinct-cons SameTag t (w .gates e .talks) (λ u j s. v .memory e .unmet u x j (found .1) (sym s ∙ sym (found .3))) (v .memory e .apart);
-              unmet =
-                  λ u y j k s.
-                  let l = without-wait tagFor (w .gates e .waits) y k in
-                  ⊎-elim (λ (m : u ≡ t). l .1 (sym s ∙ ap (λ (z : Talk). z .mine) m)) (λ m. v .memory e .unmet u y m (l .0) s) (List·Memᴰ·cases-cons j);
-              talks-had =
-                  each-cons
-                  (Had (w .net) (w .out) e)
-                  t
-                  (w .gates e .talks)
-                  (record {
-                      origin = greeted (x .at) said i;
-                      used = λ y n j u. absurd (waited .unused y n j (subst (λ z. Uses z n y) (sym (found .3)) u));
-                      came-out = λ o j s. absurd (waited .unheard o j (s ∙ sym (found .3))) })
-                  (v .memory e .talks-had);
-              waits-had = λ y j. v .memory e .waits-had y (without-wait tagFor (w .gates e .waits) y j .0) }
+            apart = distinct-cons SameTag t (w .gates e .talks) (λ u j s. v .memory e .unmet u x j (found .1) (sym s ∙ sym (found .3))) (v .memory e .apart);
+            unmet =
+                λ u y j k s.
+                let l = without-wait tagFor (w .gates e .waits) y k in
+                ⊎-elim (λ (m : u ≡ t). l .1 (sym s ∙ ap (λ (z : Talk). z .mine) m)) (λ m. v .memory e .unmet u y m (l .0) s) (List·Memᴰ·cases-cons j);
+            talks-had =
+                each-cons
+                (Had (w .net) (w .out) e)
+                t
+                (w .gates e .talks)
+                (record {
+                  origin = greeted (x .at) said i;
+                  used = λ y n j u. absurd (waited .unused y n j (subst (λ z. Uses z n y) (sym (found .3)) u));
+                  came-out = λ o j s. absurd (waited .unheard o j (s ∙ sym (found .3)));
+                })
+                (v .memory e .talks-had);
+            waits-had = λ y j. v .memory e .waits-had y (without-wait tagFor (w .gates e .waits) y j .0);
+          }
 
   -- The next number of a talk is used for a word, which may carry what was put in.
   module _ (a : ℕ) (t : Talk) (x : Word) (ps : List Note) (i : In t (w .gates a .talks)) (uses-it : (m n : ℕ) → Uses m n x → (m ≡ t .mine) × (n ≡ suc (t .sent)))
@@ -398,62 +433,68 @@ module _ (r : Rules) (w : World) (v : Inv r w) where
     emits-inv : Inv r (emits a t x ps w)
     emits-inv =
         record {
-            kept =
-                record {
-                    words = each-cons (Sound r (emits a t x ps w)) x (w .net) sound (λ y j. sound-grows r w _ grows y (v .kept .words y j));
-                    draws = distinct-cons SameDraw x (w .net) (λ y j s. draws-none (s .0) (s .1)) (v .kept .draws);
-                    answers = distinct-cons SameAnswer x (w .net) (λ y j s. answers-none (s .0) (s .1)) (v .kept .answers);
-                    uses = distinct-cons SameUse x (w .net) fresh (v .kept .uses);
-                    puts-sent = sent-too;
-                    puts-apart = apart;
-                    outs-owned =
-                        λ o j.
-                        record {
-                            word = List·Memᴰ·tail (v .kept .outs-owned o j .word);
-                            source = v .kept .outs-owned o j .source;
-                            goal = v .kept .outs-owned o j .goal };
-                    outs-apart = v .kept .outs-apart;
-                    hellos = λ j b. last-hello (λ n. n ≤ w .now b) a b g (w .gates) j (λ e. v .kept .hellos a b) (v .kept .hellos j b) };
-            memory =
-                λ j.
-                changed-both
-                (Memory (x ∷ w .net) (w .out) j)
-                a
-                g
-                (w .gates)
-                j
-                (λ e. subst (λ k. Memory (x ∷ w .net) (w .out) k g) (sym e) (memory-sent (w .net) (w .out) a (w .gates a) t x i uses-it (v .memory a)))
-                (λ ne.
-                 memory-net
-                 (w .net)
-                 (w .out)
-                 j
-                 (w .gates j)
-                 x
-                 (λ u n k l. drew-here a j (u .mine) ne (subst (λ z. Drew (w .net) a z) (sym (uses-it (u .mine) n l .0)) (talk-drew a t i)) (talk-drew j u k))
-                 (λ y n k l. drew-here a j (y .tag) ne (subst (λ z. Drew (w .net) a z) (sym (uses-it (y .tag) n l .0)) (talk-drew a t i)) (wait-drew j y k))
-                 (v .memory j)) }
+          kept =
+              record {
+                words = each-cons (Sound r (emits a t x ps w)) x (w .net) sound (λ y j. sound-grows r w _ grows y (v .kept .words y j));
+                draws = distinct-cons SameDraw x (w .net) (λ y j s. draws-none (s .0) (s .1)) (v .kept .draws);
+                answers = distinct-cons SameAnswer x (w .net) (λ y j s. answers-none (s .0) (s .1)) (v .kept .answers);
+                uses = distinct-cons SameUse x (w .net) fresh (v .kept .uses);
+                puts-sent = sent-too;
+                puts-apart = apart;
+                outs-owned =
+                    λ o j.
+                    record {
+                      word = List·Memᴰ·tail (v .kept .outs-owned o j .word);
+                      source = v .kept .outs-owned o j .source;
+                      goal = v .kept .outs-owned o j .goal;
+                    };
+                outs-apart = v .kept .outs-apart;
+                hellos = λ j b. last-hello (λ n. n ≤ w .now b) a b g (w .gates) j (λ e. v .kept .hellos a b) (v .kept .hellos j b);
+              };
+          memory =
+              λ j.
+              changed-both
+              (Memory (x ∷ w .net) (w .out) j)
+              a
+              g
+              (w .gates)
+              j
+              (λ e. subst (λ k. Memory (x ∷ w .net) (w .out) k g) (sym e) (memory-sent (w .net) (w .out) a (w .gates a) t x i uses-it (v .memory a)))
+              (λ ne.
+              memory-net
+              (w .net)
+              (w .out)
+              j
+              (w .gates j)
+              x
+              (λ u n k l. drew-here a j (u .mine) ne (subst (λ z. Drew (w .net) a z) (sym (uses-it (u .mine) n l .0)) (talk-drew a t i)) (talk-drew j u k))
+              (λ y n k l. drew-here a j (y .tag) ne (subst (λ z. Drew (w .net) a z) (sym (uses-it (y .tag) n l .0)) (talk-drew a t i)) (wait-drew j y k))
+              (v .memory j));
+        }
       where
         g : Gate
         g = with-talks (change (t .mine) sentOne (w .gates a .talks)) (w .gates a)
+
         grows : Grows w (emits a t x ps w)
         grows =
             record {
-                net-grows = λ y j. List·Memᴰ·tail j;
-                put-grows = λ p j. Memᴰ·append-right ps j;
-                drawn-grows = λ s e. e;
-                now-grows = λ b. le-refl _;
-                hello-grows =
-                    λ j b.
-                    last-hello
-                    (λ n. w .gates j .lastHello b ≤ n)
-                    a
-                    b
-                    g
-                    (w .gates)
-                    j
-                    (λ e. subst (λ k. w .gates k .lastHello b ≤ w .gates a .lastHello b) (sym e) (le-refl _))
-                    (le-refl _) }
+              net-grows = λ y j. List·Memᴰ·tail j;
+              put-grows = λ p j. Memᴰ·append-right ps j;
+              drawn-grows = λ s e. e;
+              now-grows = λ b. le-refl _;
+              hello-grows =
+                  λ j b.
+                  last-hello
+                  (λ n. w .gates j .lastHello b ≤ n)
+                  a
+                  b
+                  g
+                  (w .gates)
+                  j
+                  (λ e. subst (λ k. w .gates k .lastHello b ≤ w .gates a .lastHello b) (sym e) (le-refl _))
+                  (le-refl _);
+            }
+
         fresh : (y : Word) → In y (w .net) → SameUse x y → ⊥
         fresh y j s =
             let e = uses-it (s .0) (s .1) (s .2) in
@@ -477,17 +518,18 @@ module _ (r : Rules) (w : World) (v : Inv r w) where
       (omega arith, may-send-most r (w .now a) t (h .1 .1), origin-grows a (t .with′) (t .mine) (t .theirs) (λ z j. List·Memᴰ·tail j) (v .memory a .talks-had t (h .0) .origin), List·Memᴰ·head refl)
       (each-cons (λ q. In (packetOf q) (y ∷ w .net)) p (w .put) (List·Memᴰ·head refl) (λ q j. List·Memᴰ·tail (v .kept .puts-sent q j)))
       (distinct-cons
-       SameNote
-       p
-       (w .put)
-       (λ q j s.
-        let k : q .number ≤ t .sent = v .memory a .talks-had t (h .0) .used (packetOf q) (q .number) (v .kept .puts-sent q j) (sym (s .0), refl) in
-        let l : suc (t .sent) ≡ q .number = s .1 in
-        omega arith)
-       (v .kept .puts-apart))
+      SameNote
+      p
+      (w .put)
+      (λ q j s.
+      let k : q .number ≤ t .sent = v .memory a .talks-had t (h .0) .used (packetOf q) (q .number) (v .kept .puts-sent q j) (sym (s .0), refl) in
+      let l : suc (t .sent) ≡ q .number = s .1 in
+      omega arith)
+      (v .kept .puts-apart))
     where
       y : Word
       y = Packet a (t .with′) (t .mine) (t .theirs) (suc (t .sent)) x
+
       p : Note
       p = note a (t .with′) (t .mine) (t .theirs) (suc (t .sent)) x
 
@@ -501,18 +543,18 @@ module _ (r : Rules) (w : World) (v : Inv r w) where
       w
       (Inv r)
       (λ e.
-       emits-inv
-       a
-       t
-       y
-       []
-       (h .0)
-       (λ k n u. (sym (u .0), sym (u .1)))
-       (λ s d. d)
-       (λ s d. d)
-       (omega arith, may-send-most r (w .now a) t e, origin-grows a (t .with′) (t .mine) (t .theirs) (λ z j. List·Memᴰ·tail j) (v .memory a .talks-had t (h .0) .origin))
-       (λ q j. List·Memᴰ·tail (v .kept .puts-sent q j))
-       (v .kept .puts-apart))
+      emits-inv
+      a
+      t
+      y
+      []
+      (h .0)
+      (λ k n u. (sym (u .0), sym (u .1)))
+      (λ s d. d)
+      (λ s d. d)
+      (omega arith, may-send-most r (w .now a) t e, origin-grows a (t .with′) (t .mine) (t .theirs) (λ z j. List·Memᴰ·tail j) (v .memory a .talks-had t (h .0) .origin))
+      (λ q j. List·Memᴰ·tail (v .kept .puts-sent q j))
+      (v .kept .puts-apart))
       (λ e. v)
     where
       y : Word
@@ -523,57 +565,61 @@ module _ (r : Rules) (w : World) (v : Inv r w) where
       Each (Owned r (w .net)) (os ++ w .out) → Distinct SameNote (os ++ w .out) → Inv r (hears e (t .mine) n os w)
   hears-inv e n t os i of owned apart =
       record {
-          kept =
-              record {
-                  words = λ x j. sound-grows r w (hears e (t .mine) n os w) grows x (v .kept .words x j);
-                  draws = v .kept .draws;
-                  answers = v .kept .answers;
-                  uses = v .kept .uses;
-                  puts-sent = v .kept .puts-sent;
-                  puts-apart = v .kept .puts-apart;
-                  outs-owned = owned;
-                  outs-apart = apart;
-                  hellos = λ j b. last-hello (λ k. k ≤ w .now b) e b g (w .gates) j (λ s. v .kept .hellos e b) (v .kept .hellos j b) };
-          memory =
-              λ j.
-              changed-both
-              (Memory (w .net) (os ++ w .out) j)
-              e
-              g
-              (w .gates)
-              j
-              (λ s. subst (λ k. Memory (w .net) (os ++ w .out) k g) (sym s) (memory-came (w .net) (w .out) os e n (w .gates e) t i of (v .memory e)))
-              (λ ne.
-               memory-out
-               (w .net)
-               (w .out)
-               os
-               j
-               (w .gates j)
-               (λ o u k l s. drew-here e j (u .mine) ne (subst (λ z. Drew (w .net) e z) (sym (of o k .0) ∙ s) (talk-drew e t i)) (talk-drew j u l))
-               (λ o y k l s. drew-here e j (y .tag) ne (subst (λ z. Drew (w .net) e z) (sym (of o k .0) ∙ s) (talk-drew e t i)) (wait-drew j y l))
-               (v .memory j)) }
+        kept =
+            record {
+              words = λ x j. sound-grows r w (hears e (t .mine) n os w) grows x (v .kept .words x j);
+              draws = v .kept .draws;
+              answers = v .kept .answers;
+              uses = v .kept .uses;
+              puts-sent = v .kept .puts-sent;
+              puts-apart = v .kept .puts-apart;
+              outs-owned = owned;
+              outs-apart = apart;
+              hellos = λ j b. last-hello (λ k. k ≤ w .now b) e b g (w .gates) j (λ s. v .kept .hellos e b) (v .kept .hellos j b);
+            };
+        memory =
+            λ j.
+            changed-both
+            (Memory (w .net) (os ++ w .out) j)
+            e
+            g
+            (w .gates)
+            j
+            (λ s. subst (λ k. Memory (w .net) (os ++ w .out) k g) (sym s) (memory-came (w .net) (w .out) os e n (w .gates e) t i of (v .memory e)))
+            (λ ne.
+            memory-out
+            (w .net)
+            (w .out)
+            os
+            j
+            (w .gates j)
+            (λ o u k l s. drew-here e j (u .mine) ne (subst (λ z. Drew (w .net) e z) (sym (of o k .0) ∙ s) (talk-drew e t i)) (talk-drew j u l))
+            (λ o y k l s. drew-here e j (y .tag) ne (subst (λ z. Drew (w .net) e z) (sym (of o k .0) ∙ s) (talk-drew e t i)) (wait-drew j y l))
+            (v .memory j));
+      }
     where
       g : Gate
       g = with-talks (change (t .mine) (came n) (w .gates e .talks)) (w .gates e)
+
       grows : Grows w (hears e (t .mine) n os w)
       grows =
           record {
-              net-grows = λ y j. j;
-              put-grows = λ p j. j;
-              drawn-grows = λ s k. k;
-              now-grows = λ b. le-refl _;
-              hello-grows =
-                  λ j b.
-                  last-hello
-                  (λ k. w .gates j .lastHello b ≤ k)
-                  e
-                  b
-                  g
-                  (w .gates)
-                  j
-                  (λ s. subst (λ k. w .gates k .lastHello b ≤ w .gates e .lastHello b) (sym s) (le-refl _))
-                  (le-refl _) }
+            net-grows = λ y j. j;
+            put-grows = λ p j. j;
+            drawn-grows = λ s k. k;
+            now-grows = λ b. le-refl _;
+            hello-grows =
+                λ j b.
+                last-hello
+                (λ k. w .gates j .lastHello b ≤ k)
+                e
+                b
+                g
+                (w .gates)
+                j
+                (λ s. subst (λ k. w .gates k .lastHello b ≤ w .gates e .lastHello b) (sym s) (le-refl _))
+                (le-refl _);
+          }
 
   -- A packet is taken.
   packet-inv : (e a m h n new : ℕ) (x : Inner) → In (Packet a e m h n x) (w .net) → comesIn r (w .now e) a h m n (w .gates e .talks) ≡ true → r .owner (x .from) ≡ a → r .owner (x .to) ≡ e →
@@ -583,16 +629,22 @@ module _ (r : Rules) (w : World) (v : Inv r w) where
     where
       o : Note
       o = note e a h m n x
+
       f : (t : Talk) × In t (w .gates e .talks) × (isTalk a h m t ≡ true) × (mayCome r (w .now e) n t ≡ true)
       f = comes-in r (w .now e) a h m n (w .gates e .talks) c
+
       t : Talk
       t = f .0
+
       of : (t .with′ ≡ a) × (t .mine ≡ h) × (t .theirs ≡ m)
       of = is-talk a h m t (f .2)
+
       named : (q : Note) → In q (o ∷ []) → (q .gateTag ≡ t .mine) × (q .number ≡ n)
       named = each-cons (λ q. (q .gateTag ≡ t .mine) × (q .number ≡ n)) o [] (sym (of .1), refl) (each-none _)
+
       owned : Each (Owned r (w .net)) (o ∷ w .out)
       owned = each-cons (Owned r (w .net)) o (w .out) (record { word = i; source = from; goal = to }) (v .kept .outs-owned)
+
       apart : Distinct SameNote (o ∷ w .out)
       apart =
           distinct-cons
@@ -600,10 +652,10 @@ module _ (r : Rules) (w : World) (v : Inv r w) where
           o
           (w .out)
           (λ q j s.
-           both-ways
-           (isIn n (t .heard))
-           (may-come-new r (w .now e) n t (f .3))
-           (subst (λ k. isIn k (t .heard) ≡ true) (sym (s .1)) (v .memory e .talks-had t (f .1) .came-out q j (sym (s .0) ∙ sym (of .1)))))
+          both-ways
+          (isIn n (t .heard))
+          (may-come-new r (w .now e) n t (f .3))
+          (subst (λ k. isIn k (t .heard) ≡ true) (sym (s .1)) (v .memory e .talks-had t (f .1) .came-out q j (sym (s .0) ∙ sym (of .1)))))
           (v .kept .outs-apart)
 
   -- A keepalive is taken.
@@ -667,24 +719,27 @@ step-inv r (Stays a m) w v = stays-inv r w v a m _ (by-mine m (w .gates a .talks
 start-inv : (r : Rules) → Inv r start
 start-inv r =
     record {
-        kept =
-            record {
-                words = each-none _;
-                draws = distinct-none SameDraw;
-                answers = distinct-none SameAnswer;
-                uses = distinct-none SameUse;
-                puts-sent = each-none _;
-                puts-apart = distinct-none SameNote;
-                outs-owned = each-none _;
-                outs-apart = distinct-none SameNote;
-                hellos = λ e a. omega arith };
-        memory =
-            λ a.
-            record {
-                apart = distinct-none SameTag;
-                unmet = λ t x i j s. List·Memᴰ·not-nil i;
-                talks-had = each-none _;
-                waits-had = each-none _ } }
+      kept =
+          record {
+            words = each-none _;
+            draws = distinct-none SameDraw;
+            answers = distinct-none SameAnswer;
+            uses = distinct-none SameUse;
+            puts-sent = each-none _;
+            puts-apart = distinct-none SameNote;
+            outs-owned = each-none _;
+            outs-apart = distinct-none SameNote;
+            hellos = λ e a. omega arith;
+          };
+      memory =
+          λ a.
+          record {
+            apart = distinct-none SameTag;
+            unmet = λ t x i j s. List·Memᴰ·not-nil i;
+            talks-had = each-none _;
+            waits-had = each-none _;
+          };
+    }
 
 -- It holds of every run.
 pub inv : (r : Rules) (es : List Ev) → Inv r (world r es)

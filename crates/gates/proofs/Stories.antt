@@ -9,10 +9,11 @@ pub stories : Stories
 unfolding At isIn forSending comesIn change waitsFor withoutWait bringsNth world
 stories =
     record {
-        a-packet-comes-out = refl;
-        and-was-put-in = refl;
-        kept-first = refl;
-        kept-again = refl;
-        kept-comes-out-once = refl;
-        other-name-stays-out = refl;
-        forgotten-comes-back = refl }
+      a-packet-comes-out = refl;
+      and-was-put-in = refl;
+      kept-first = refl;
+      kept-again = refl;
+      kept-comes-out-once = refl;
+      other-name-stays-out = refl;
+      forgotten-comes-back = refl;
+    }

@@ -34,6 +34,7 @@ for-sending r now e (t ∷ ts) =
   where
     P : Talk → Type 0
     P u = (u .with′ ≡ e) × (maySend r now u ≡ true)
+
     go : (b : Bool) → (eqb (t .with′) e && maySend r now t) ≡ b → Finds P (t ∷ ts) (forSending r now e ts) →
         Finds P (t ∷ ts) (cond b (This t) (forSending r now e ts))
     go true e′ h =
@@ -64,8 +65,10 @@ comes-in r now a m h n (t ∷ ts) e = go (isTalk a m h t) refl e (λ k. comes-in
   where
     Result : Type 0
     Result = (u : Talk) × In u (t ∷ ts) × (isTalk a m h u ≡ true) × (mayCome r now n u ≡ true)
+
     later : ((u : Talk) × In u ts × (isTalk a m h u ≡ true) × (mayCome r now n u ≡ true)) → Result
     later k = (k .0, List·Memᴰ·tail (k .1), k .2, k .3)
+
     go : (b : Bool) → isTalk a m h t ≡ b → cond b (mayCome r now n t) (comesIn r now a m h n ts) ≡ true →
         (comesIn r now a m h n ts ≡ true → (u : Talk) × In u ts × (isTalk a m h u ≡ true) × (mayCome r now n u ≡ true)) → Result
     go true i k rest = (t, List·Memᴰ·head refl, i, k)
@@ -100,8 +103,10 @@ change-from m f keeps (t ∷ ts) u i = go (eqb (t .mine) m) i (λ k. change-from
   where
     Result : Type 0
     Result = (v : Talk) × In v (t ∷ ts) × (v .mine ≡ u .mine)
+
     later : ((v : Talk) × In v ts × (v .mine ≡ u .mine)) → Result
     later k = (k .0, List·Memᴰ·tail (k .1), k .2)
+
     go : (b : Bool) → In u (cond b (f t ∷ ts) (t ∷ change m f ts)) → (In u (change m f ts) → (v : Talk) × In v ts × (v .mine ≡ u .mine)) → Result
     go true j rest =
         ⊎-elim
@@ -146,11 +151,13 @@ waits-for now e t (x ∷ xs) h =
   where
     Result : Type 0
     Result = (y : Wait) × In y (x ∷ xs) × (y .for′ ≡ e) × (y .tag ≡ t)
+
     first : (eqb (x .for′) e && (eqb (x .tag) t && leb now (x .at + 5))) ≡ true → Result
     first k =
         let p = and-parts (eqb (x .for′) e) (eqb (x .tag) t && leb now (x .at + 5)) k in
         let q = and-parts (eqb (x .tag) t) (leb now (x .at + 5)) (p .1) in
         (x, List·Memᴰ·head refl, eqb-true (x .for′) e (p .0), eqb-true (x .tag) t (q .0))
+
     later : ((y : Wait) × In y xs × (y .for′ ≡ e) × (y .tag ≡ t)) → Result
     later k = (k .0, List·Memᴰ·tail (k .1), k .2, k .3)
 
@@ -162,6 +169,7 @@ without-wait t (x ∷ xs) y i = go (eqb (x .tag) t) refl i (λ k. without-wait t
   where
     later : (In y xs × (y .tag ≡ t → ⊥)) → In y (x ∷ xs) × (y .tag ≡ t → ⊥)
     later k = (List·Memᴰ·tail (k .0), k .1)
+
     go : (b : Bool) → eqb (x .tag) t ≡ b → In y (cond b (withoutWait t xs) (x ∷ withoutWait t xs)) → (In y (withoutWait t xs) → In y xs × (y .tag ≡ t → ⊥)) →
         In y (x ∷ xs) × (y .tag ≡ t → ⊥)
     go true e j rest = later (rest j)
@@ -180,6 +188,7 @@ comes-in-talk r now a m h n (u ∷ us) t d i e = ⊎-elim here (λ k. there k (c
     here : t ≡ u → cond (isTalk a m h u) (mayCome r now n u) (comesIn r now a m h n us) ≡ mayCome r now n t
     here s =
         cond-true (isTalk a m h u) _ _ (subst (λ z. isTalk a m h z ≡ true) s e) ∙ ap (mayCome r now n) (sym s)
+
     there : In t us → comesIn r now a m h n us ≡ mayCome r now n t → cond (isTalk a m h u) (mayCome r now n u) (comesIn r now a m h n us) ≡ mayCome r now n t
     there k rest = cond-false (isTalk a m h u) _ _ (other (isTalk a m h u) refl) ∙ rest
       where
@@ -203,15 +212,19 @@ change-splits m f (u ∷ us) t d i e = ⊎-elim here (λ k. there k (change-spli
   where
     Result : Type 0
     Result = (before : List Talk) × (after : List Talk) × (u ∷ us ≡ before ++ (t ∷ after)) × (cond (eqb (u .mine) m) (f u ∷ us) (u ∷ change m f us) ≡ before ++ (f t ∷ after))
+
     here : t ≡ u → Result
-    here s =
-        ([],
-         us,
-         ap (λ z. z ∷ us) (sym s),
-         cond-true (eqb (u .mine) m) _ _ (eq-eqb (u .mine) m (ap (λ (z : Talk). z .mine) (sym s) ∙ e)) ∙ ap (λ z. f z ∷ us) (sym s))
+    here s = (
+      [],
+      us,
+      ap (λ z. z ∷ us) (sym s),
+      cond-true (eqb (u .mine) m) _ _ (eq-eqb (u .mine) m (ap (λ (z : Talk). z .mine) (sym s) ∙ e)) ∙ ap (λ z. f z ∷ us) (sym s),
+    )
+
     there : In t us → ((before : List Talk) × (after : List Talk) × (us ≡ before ++ (t ∷ after)) × (change m f us ≡ before ++ (f t ∷ after))) → Result
-    there k rest =
-        (u ∷ rest .0,
-         rest .1,
-         ap (λ z. u ∷ z) (rest .2),
-         cond-false (eqb (u .mine) m) _ _ (ne-eqb (u .mine) m (λ s. d .0 t k (s ∙ sym e))) ∙ ap (λ z. u ∷ z) (rest .3))
+    there k rest = (
+      u ∷ rest .0,
+      rest .1,
+      ap (λ z. u ∷ z) (rest .2),
+      cond-false (eqb (u .mine) m) _ _ (ne-eqb (u .mine) m (λ s. d .0 t k (s ∙ sym e))) ∙ ap (λ z. u ∷ z) (rest .3),
+    )

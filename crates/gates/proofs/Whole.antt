@@ -58,18 +58,20 @@ module _ (r : Rules) (es : List Ev) where
     let-out t j s =
         let split = change-splits h (came n) (w .gates e .talks) t (v .memory e .apart) j s in
         record {
-            out-so = refl;
-            talks-so = (split .0, split .1, split .2, ap (λ (z : Gate). z .talks) here ∙ split .3);
-            waits-so = ap (λ (z : Gate). z .waits) here;
-            hellos-so = ap (λ (z : Gate). z .lastHello) here;
-            others-so = λ j′ ne. changed-there e g (w .gates) j′ ne;
-            now-so = refl;
-            net-so = refl;
-            put-so = refl;
-            drawn-so = refl }
+          out-so = refl;
+          talks-so = (split .0, split .1, split .2, ap (λ (z : Gate). z .talks) here ∙ split .3);
+          waits-so = ap (λ (z : Gate). z .waits) here;
+          hellos-so = ap (λ (z : Gate). z .lastHello) here;
+          others-so = λ j′ ne. changed-there e g (w .gates) j′ ne;
+          now-so = refl;
+          net-so = refl;
+          put-so = refl;
+          drawn-so = refl;
+        }
       where
         g : Gate
         g = with-talks (change h (came n) (w .gates e .talks)) (w .gates e)
+
         here : hears e h n (note e a h m n x ∷ []) w .gates e ≡ g
         here = changed-here e g (w .gates)
 
@@ -87,16 +89,18 @@ pub main : Main
 main r es =
     let u = inv r es in
     record {
-        was-put =
-            λ o i.
-            let own = u .kept .outs-owned o i in
-            (u .kept .words (packetFor o) (own .word) .3, own .source, own .goal);
-        once = once r es;
-        nothing-bare = λ a e m h n x i. (u .kept .words _ i .3, honest r es .each _ i);
-        comes-when = λ a e m h n i y x t p. comes-when r es a e m h n i y x p t;
-        no-talk = λ a e m h n i y x p. no-talk r es a e m h n i y x p;
-        can =
-            λ x ps a e t y from to two less own new-t new-y ty.
-            (can-a r es u x ps a e t y from to two less own new-t new-y ty,
-             can-e r es u x ps a e t y from to two less own new-t new-y ty,
-             can-out r es u x ps a e t y from to two less own new-t new-y ty) }
+      was-put =
+          λ o i.
+          let own = u .kept .outs-owned o i in
+          (u .kept .words (packetFor o) (own .word) .3, own .source, own .goal);
+      once = once r es;
+      nothing-bare = λ a e m h n x i. (u .kept .words _ i .3, honest r es .each _ i);
+      comes-when = λ a e m h n i y x t p. comes-when r es a e m h n i y x p t;
+      no-talk = λ a e m h n i y x p. no-talk r es a e m h n i y x p;
+      can =
+          λ x ps a e t y from to two less own new-t new-y ty. (
+            can-a r es u x ps a e t y from to two less own new-t new-y ty,
+            can-e r es u x ps a e t y from to two less own new-t new-y ty,
+            can-out r es u x ps a e t y from to two less own new-t new-y ty,
+          );
+    }

@@ -89,11 +89,12 @@ module _ (r : Rules) (c : Code r) where
   abbrev pub did : ℕ → Did (c .State) → Field → Field
   did a d f =
       record {
-          states = changed a (d .after) (f .states);
-          net = d .sent ++ f .net;
-          put = d .put ++ f .put;
-          out = d .out ++ f .out;
-          drawn = d .drew ++ f .drawn }
+        states = changed a (d .after) (f .states);
+        net = d .sent ++ f .net;
+        put = d .put ++ f .put;
+        out = d .out ++ f .out;
+        drawn = d .drew ++ f .drawn;
+      }
 
   unfoldable pub bringsTo : (a place : ℕ) → List ℕ → List Word → Field → Field
   bringsTo a i ts [] f = f

@@ -3,4 +3,5 @@ pub mod Talk
 pub mod World
 pub mod Promise
 pub mod Stories
+pub mod Timer
 pub mod Code

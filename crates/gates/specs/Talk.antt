@@ -56,14 +56,15 @@ mayCome r now n t = ltb 0 n && (lives r now t && (ltb (t .top) (n + r .window) &
 abbrev pub came : ℕ → Talk → Talk
 came n t =
     record {
-        with′ = t .with′;
-        mine = t .mine;
-        theirs = t .theirs;
-        born = t .born;
-        sent = t .sent;
-        top = larger (t .top) n;
-        heard = n ∷ t .heard;
-        sure = true }
+      with′ = t .with′;
+      mine = t .mine;
+      theirs = t .theirs;
+      born = t .born;
+      sent = t .sent;
+      top = larger (t .top) n;
+      heard = n ∷ t .heard;
+      sure = true;
+    }
 
 -- The talk may be used to send: this gate is sure of it, it is not over, and its numbers are not used up.
 abbrev pub maySend : Rules → ℕ → Talk → Bool
@@ -73,11 +74,12 @@ maySend r now t = t .sure && (lives r now t && ltb (t .sent) (r .most))
 abbrev pub sentOne : Talk → Talk
 sentOne t =
     record {
-        with′ = t .with′;
-        mine = t .mine;
-        theirs = t .theirs;
-        born = t .born;
-        sent = suc (t .sent);
-        top = t .top;
-        heard = t .heard;
-        sure = t .sure }
+      with′ = t .with′;
+      mine = t .mine;
+      theirs = t .theirs;
+      born = t .born;
+      sent = suc (t .sent);
+      top = t .top;
+      heard = t .heard;
+      sure = t .sure;
+    }

@@ -142,23 +142,25 @@ becomes a g ws ts w =
 abbrev pub emits : ℕ → Talk → Word → List Note → World → World
 emits a t x ps w =
     record {
-        now = w .now;
-        gates = changed a (with-talks (change (t .mine) sentOne (w .gates a .talks)) (w .gates a)) (w .gates);
-        net = x ∷ w .net;
-        put = ps ++ w .put;
-        out = w .out;
-        drawn = w .drawn }
+      now = w .now;
+      gates = changed a (with-talks (change (t .mine) sentOne (w .gates a .talks)) (w .gates a)) (w .gates);
+      net = x ∷ w .net;
+      put = ps ++ w .put;
+      out = w .out;
+      drawn = w .drawn;
+    }
 
 -- a number came at gate e in the talk with this own tag; what comes out for it is noted
 abbrev pub hears : (e mine n : ℕ) → List Note → World → World
 hears e m n os w =
     record {
-        now = w .now;
-        gates = changed e (with-talks (change m (came n) (w .gates e .talks)) (w .gates e)) (w .gates);
-        net = w .net;
-        put = w .put;
-        out = os ++ w .out;
-        drawn = w .drawn }
+      now = w .now;
+      gates = changed e (with-talks (change m (came n) (w .gates e .talks)) (w .gates e)) (w .gates);
+      net = w .net;
+      put = w .put;
+      out = os ++ w .out;
+      drawn = w .drawn;
+    }
 
 -- WHEN A WORD IS TAKEN by gate e, to which it is brought, with this tag to draw for a reply. A hello: it is for e, its tick is above that of the last one
 -- taken from its maker, and the tag is new. A reply: it is for e and answers a hello that waits. A packet: it is for e, its number may come in its talk,
@@ -177,9 +179,10 @@ taken e new (Hello a f tag at′) w =
     becomes
     e
     (record {
-        talks = newTalk a new tag (w .now e) false ∷ w .gates e .talks;
-        waits = w .gates e .waits;
-        lastHello = changed a at′ (w .gates e .lastHello) })
+      talks = newTalk a new tag (w .now e) false ∷ w .gates e .talks;
+      waits = w .gates e .waits;
+      lastHello = changed a at′ (w .gates e .lastHello);
+    })
     (Reply e a new tag ∷ [])
     (new ∷ [])
     w
@@ -187,9 +190,10 @@ taken e new (Reply a f tag tagFor) w =
     becomes
     e
     (record {
-        talks = newTalk a tagFor tag (w .now e) true ∷ w .gates e .talks;
-        waits = withoutWait tagFor (w .gates e .waits);
-        lastHello = w .gates e .lastHello })
+      talks = newTalk a tagFor tag (w .now e) true ∷ w .gates e .talks;
+      waits = withoutWait tagFor (w .gates e .waits);
+      lastHello = w .gates e .lastHello;
+    })
     []
     []
     w
@@ -232,14 +236,15 @@ step r (Greets a e t) w =
     cond
     (isNew t w && not (eqb a e))
     (becomes
-     a
-     (record {
-         talks = w .gates a .talks;
-         waits = record { for′ = e; tag = t; at = w .now a } ∷ w .gates a .waits;
-         lastHello = w .gates a .lastHello })
-     (Hello a e t (w .now a) ∷ [])
-     (t ∷ [])
-     w)
+    a
+    (record {
+      talks = w .gates a .talks;
+      waits = record { for′ = e; tag = t; at = w .now a } ∷ w .gates a .waits;
+      lastHello = w .gates a .lastHello;
+    })
+    (Hello a e t (w .now a) ∷ [])
+    (t ∷ [])
+    w)
     w
 step r (Puts a x) w =
     cond
