@@ -3,15 +3,15 @@ use mathlib.Core.Path.{_≡_, refl, sym, ap, subst, _∙_}
 use mathlib.Core.Bool.{Bool, true, false, cond, _&&_, _||_, not}
 use mathlib.Core.Logic.{_⊎_, inl, inr, ⊎-elim}
 use mathlib.Core.List.{List, [], _∷_, _++_}
-use Prim.Native.Nat.{ℕ, zero, suc, _+_}
+use Prim.Native.Nat.{ℕ, zero, suc, _+_, _<_}
 use lib.Dec.{eqb}
 use Rattle.std.proofs.shelf.Tests.{cond-both, and-from, not-from-false, ne-eqb}
 use Rattle.gates.specs.Lists.{At}
 use Rattle.gates.specs.Talk.{Inner, Rules, Talk, isIn, maySend}
 use Rattle.gates.specs.World.{Word, Hello, Reply, Packet, Empty, Gate, Note, World, Ev, Tick, Greets, Puts, Lies, Brings, Restarts, Drops, Stays, Found, NoTalk, This}
 use Rattle.gates.specs.World.{changed, isNew, forSending, byMine, takes, taken, bringsNth, sends, stays, step, world}
-use Rattle.gates.specs.Promise.{lied}
-use Rattle.gates.specs.Code.{Did, OfGate, AllOfGate, AllNew, Follows, Code, Field, Act, Asks, Brought, did, bringsTo, play, NewIn, Drawing, Plays, CodeKeeps}
+use Rattle.gates.specs.Promise.{lied, GreetsBelow}
+use Rattle.gates.specs.Code.{Did, OfGate, AllOfGate, AllNew, Follows, Code, Field, Act, Asks, Brought, did, bringsTo, play, NewIn, Fair, Plays, CodeKeeps}
 use Rattle.gates.proofs.Memories.{changed-both}
 use Rattle.gates.proofs.Can.{changed-there}
 
@@ -46,17 +46,17 @@ module _ (r : Rules) (j : ℕ) where
       cond-both (maySend r (w .now a) t) _ w (Untouched j w) (λ e. record { gate-so = changed-there a _ (w .gates) j ne; now-so = refl }) (λ e. same w)
 
   -- an event touches no gate but its own
-  step-there : (w : World) (a : ℕ) (v : Ev) → OfGate a v → (j ≡ a → ⊥) → Untouched j w (step r v w)
-  step-there w a (Tick b) o ne = record { gate-so = refl; now-so = changed-there b _ (w .now) j (λ s. ne (s ∙ o)) }
-  step-there w a (Greets b e t) o ne =
+  step-there : (w : World) (k a : ℕ) (v : Ev) → OfGate k a v → (j ≡ a → ⊥) → Untouched j w (step r v w)
+  step-there w k a (Tick b) o ne = record { gate-so = refl; now-so = changed-there b _ (w .now) j (λ s. ne (s ∙ o)) }
+  step-there w k a (Greets b e t) o ne =
       cond-both
       (isNew t w && not (eqb b e))
       _
       w
       (Untouched j w)
-      (λ c. record { gate-so = changed-there b _ (w .gates) j (λ s. ne (s ∙ o)); now-so = refl })
+      (λ c. record { gate-so = changed-there b _ (w .gates) j (λ s. ne (s ∙ o .0)); now-so = refl })
       (λ c. same w)
-  step-there w a (Puts b x) o ne =
+  step-there w k a (Puts b x) o ne =
       cond-both
       (eqb (r .owner (x .from)) b && not (eqb (r .owner (x .to)) b))
       _
@@ -64,36 +64,49 @@ module _ (r : Rules) (j : ℕ) where
       (Untouched j w)
       (λ c. sent-there w b x (forSending r (w .now b) (r .owner (x .to)) (w .gates b .talks)) (λ s. ne (s ∙ o)))
       (λ c. same w)
-  step-there w a (Lies b e x) o ne = absurd o
-  step-there w a (Brings e i t) o ne = brought-there w e i t (w .net) (λ s. ne (s ∙ o))
-  step-there w a (Restarts b) o ne = record { gate-so = changed-there b _ (w .gates) j (λ s. ne (s ∙ o)); now-so = refl }
-  step-there w a (Drops b m) o ne = record { gate-so = changed-there b _ (w .gates) j (λ s. ne (s ∙ o)); now-so = refl }
-  step-there w a (Stays b m) o ne = stays-there w b (byMine m (w .gates b .talks)) (λ s. ne (s ∙ o))
+  step-there w k a (Lies b e x) o ne = absurd o
+  step-there w k a (Brings e i t) o ne = brought-there w e i t (w .net) (λ s. ne (s ∙ o))
+  step-there w k a (Restarts b) o ne = record { gate-so = changed-there b _ (w .gates) j (λ s. ne (s ∙ o)); now-so = refl }
+  step-there w k a (Drops b m) o ne = record { gate-so = changed-there b _ (w .gates) j (λ s. ne (s ∙ o)); now-so = refl }
+  step-there w k a (Stays b m) o ne = stays-there w b (byMine m (w .gates b .talks)) (λ s. ne (s ∙ o))
 
-  run-there : (a : ℕ) (vs es : List Ev) → AllOfGate a vs → (j ≡ a → ⊥) → Untouched j (world r es) (world r (vs ++ es))
+  run-there : (k a : ℕ) (vs es : List Ev) → AllOfGate k a vs → (j ≡ a → ⊥) → Untouched j (world r es) (world r (vs ++ es))
   unfolding AllOfGate world
-  run-there a [] es o ne = same (world r es)
-  run-there a (v ∷ vs) es o ne =
-      let first = run-there a vs es (o .1) ne in
-      let last = step-there (world r (vs ++ es)) a v (o .0) ne in
+  run-there k a [] es o ne = same (world r es)
+  run-there k a (v ∷ vs) es o ne =
+      let first = run-there k a vs es (o .1) ne in
+      let last = step-there (world r (vs ++ es)) k a v (o .0) ne in
       record { gate-so = last .gate-so ∙ first .gate-so; now-so = last .now-so ∙ first .now-so }
 
-step-honest : (a b : ℕ) (v : Ev) (es : List Ev) → OfGate a v → lied b es ≡ false → lied b (v ∷ es) ≡ false
+step-honest : (k a b : ℕ) (v : Ev) (es : List Ev) → OfGate k a v → lied b es ≡ false → lied b (v ∷ es) ≡ false
 unfolding lied
-step-honest a b (Tick d) es o e = e
-step-honest a b (Greets d f t) es o e = e
-step-honest a b (Puts d x) es o e = e
-step-honest a b (Lies d f x) es o e = absurd o
-step-honest a b (Brings f i t) es o e = e
-step-honest a b (Restarts d) es o e = e
-step-honest a b (Drops d m) es o e = e
-step-honest a b (Stays d m) es o e = e
+step-honest k a b (Tick d) es o e = e
+step-honest k a b (Greets d f t) es o e = e
+step-honest k a b (Puts d x) es o e = e
+step-honest k a b (Lies d f x) es o e = absurd o
+step-honest k a b (Brings f i t) es o e = e
+step-honest k a b (Restarts d) es o e = e
+step-honest k a b (Drops d m) es o e = e
+step-honest k a b (Stays d m) es o e = e
 
 -- nobody lies in a gate's own events
-run-honest : (a b : ℕ) (vs es : List Ev) → AllOfGate a vs → lied b es ≡ false → lied b (vs ++ es) ≡ false
+run-honest : (k a b : ℕ) (vs es : List Ev) → AllOfGate k a vs → lied b es ≡ false → lied b (vs ++ es) ≡ false
 unfolding AllOfGate
-run-honest a b [] es o e = e
-run-honest a b (v ∷ vs) es o e = step-honest a b v (vs ++ es) (o .0) (run-honest a b vs es (o .1) e)
+run-honest k a b [] es o e = e
+run-honest k a b (v ∷ vs) es o e = step-honest k a b v (vs ++ es) (o .0) (run-honest k a b vs es (o .1) e)
+
+-- and nobody greets or is greeted who is not there
+run-below : (k a : ℕ) (vs es : List Ev) → a < k → AllOfGate k a vs → GreetsBelow k es → GreetsBelow k (vs ++ es)
+unfolding AllOfGate GreetsBelow
+run-below k a [] es l o g = g
+run-below k a (Tick b ∷ vs) es l o g = run-below k a vs es l (o .1) g
+run-below k a (Greets b e t ∷ vs) es l o g = (subst (λ z. z < k) (sym (o .0 .0)) l, o .0 .1, run-below k a vs es l (o .1) g)
+run-below k a (Puts b x ∷ vs) es l o g = run-below k a vs es l (o .1) g
+run-below k a (Lies b e x ∷ vs) es l o g = absurd (o .0)
+run-below k a (Brings e i t ∷ vs) es l o g = run-below k a vs es l (o .1) g
+run-below k a (Restarts b ∷ vs) es l o g = run-below k a vs es l (o .1) g
+run-below k a (Drops b m ∷ vs) es l o g = run-below k a vs es l (o .1) g
+run-below k a (Stays b m ∷ vs) es l o g = run-below k a vs es l (o .1) g
 
 module _ (r : Rules) (c : Code r) where
   all-new : (ts drawn : List ℕ) (w : World) → w .drawn ≡ drawn → NewIn r c ts drawn → AllNew ts w
@@ -110,11 +123,11 @@ module _ (r : Rules) (c : Code r) where
   )
 
   -- one gate did what its events did: the field goes on standing for the world
-  did-plays : (f : Field r c) (es vs : List Ev) (a : ℕ) (d : Did (c .State)) → Plays r c f es → AllOfGate a vs → Follows (c .Stands a) a (world r es) (world r (vs ++ es)) d → Plays r c (did r c a d f) (vs ++ es)
-  did-plays f es vs a d p own fl =
+  did-plays : (f : Field r c) (es vs : List Ev) (a : ℕ) (d : Did (c .State)) → a < c .gates → Plays r c f es → AllOfGate (c .gates) a vs → Follows (c .Stands a) a (world r es) (world r (vs ++ es)) d → Plays r c (did r c a d f) (vs ++ es)
+  did-plays f es vs a d there p own fl =
       record {
         stands =
-            λ j.
+            λ j less.
             changed-both
             (λ s. c .Stands j s (world r (vs ++ es) .now j) (world r (vs ++ es) .gates j))
             a
@@ -123,16 +136,17 @@ module _ (r : Rules) (c : Code r) where
             j
             (λ e. subst (λ k. c .Stands k (d .after) (world r (vs ++ es) .now k) (world r (vs ++ es) .gates k)) (sym e) (fl .stands))
             (λ ne.
-            let u = run-there r j a vs es own ne in
+            let u = run-there r j (c .gates) a vs es own ne in
             subst
             (λ g. c .Stands j (f .states j) (world r (vs ++ es) .now j) g)
             (sym (u .gate-so))
-            (subst (λ n. c .Stands j (f .states j) n (world r es .gates j)) (sym (u .now-so)) (p .stands j)));
+            (subst (λ n. c .Stands j (f .states j) n (world r es .gates j)) (sym (u .now-so)) (p .stands j less)));
         net-so = fl .net-so ∙ ap (λ z. d .sent ++ z) (p .net-so);
         put-so = fl .put-so ∙ ap (λ z. d .put ++ z) (p .put-so);
         out-so = fl .out-so ∙ ap (λ z. d .out ++ z) (p .out-so);
         drawn-so = fl .drawn-so ∙ ap (λ z. d .drew ++ z) (p .drawn-so);
-        honest = λ b. run-honest a b vs es own (p .honest b);
+        below = run-below (c .gates) a vs es there own (p .below);
+        honest = λ b. run-honest (c .gates) a b vs es own (p .honest b);
       }
 
   -- the word at a place is heard, or there is none
@@ -143,12 +157,12 @@ module _ (r : Rules) (c : Code r) where
   brought-cases a zero ts (x ∷ xs) f = inl (x, refl, refl)
   brought-cases a (suc i) ts (x ∷ xs) f = brought-cases a i ts xs f
 
-  plays : (acts : List (Act r c)) → Drawing r c acts → (es : List Ev) × Plays r c (play r c acts) es
-  unfolding play Drawing world lied
+  plays : (acts : List (Act r c)) → Fair r c acts → (es : List Ev) × Plays r c (play r c acts) es
+  unfolding play Fair world lied GreetsBelow
   plays [] d =
-      ([], record { stands = c .first-stands; net-so = refl; put-so = refl; out-so = refl; drawn-so = refl; honest = λ a. refl })
+      ([], record { stands = c .first-stands; net-so = refl; put-so = refl; out-so = refl; drawn-so = refl; below = tt; honest = λ a. refl })
   plays (Asks a x ∷ acts) d =
-      let h = plays acts (d .1) in
+      let h = plays acts (d .2) in
       let s = play r c acts .states a in (
         c .doing a x s ++ h .0,
         did-plays
@@ -157,11 +171,12 @@ module _ (r : Rules) (c : Code r) where
             (c .doing a x s)
             a
             (c .does a x s)
+            (d .0)
             (h .1)
             (c .doing-own a x s)
-            (c .does-so (h .0) a x s (h .1 .stands a) (all-new (c .offers x) (play r c acts .drawn) (world r (h .0)) (h .1 .drawn-so) (d .0))),
+            (c .does-so (h .0) a x s (d .0) (h .1 .below) (h .1 .stands a (d .0)) (all-new (c .offers x) (play r c acts .drawn) (world r (h .0)) (h .1 .drawn-so) (d .1))),
       )
-  plays (Brought a i ts ∷ acts) d = of (plays acts (d .1)) (brought-cases a i ts (play r c acts .net) (play r c acts))
+  plays (Brought a i ts ∷ acts) d = of (plays acts (d .2)) (brought-cases a i ts (play r c acts .net) (play r c acts))
     where
       f : Field r c
       f = play r c acts
@@ -181,6 +196,7 @@ module _ (r : Rules) (c : Code r) where
                 (c .hearing a (y .0) ts s i)
                 a
                 (c .hears a (y .0) ts s)
+                (d .0)
                 (h .1)
                 (c .hearing-own a (y .0) ts s i)
                 (c .hears-so
@@ -190,9 +206,11 @@ module _ (r : Rules) (c : Code r) where
                 ts
                 s
                 i
-                (h .1 .stands a)
+                (d .0)
+                (h .1 .below)
+                (h .1 .stands a (d .0))
                 (subst (λ z. At i (y .0) z) (sym (h .1 .net-so)) (y .1))
-                (all-new ts (f .drawn) (world r (h .0)) (h .1 .drawn-so) (d .0)))),
+                (all-new ts (f .drawn) (world r (h .0)) (h .1 .drawn-so) (d .1)))),
           )
       of h (inr e) = (h .0, subst (λ z. Plays r c z (h .0)) (sym e) (h .1))
 

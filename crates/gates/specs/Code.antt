@@ -3,11 +3,11 @@
 use mathlib.Core.Path.{_≡_}
 use mathlib.Core.Bool.{Bool, true, false}
 use mathlib.Core.List.{List, [], _∷_, _++_}
-use Prim.Native.Nat.{ℕ, zero, suc}
+use Prim.Native.Nat.{ℕ, zero, suc, _<_}
 use Rattle.gates.specs.Lists.{At}
 use Rattle.gates.specs.Talk.{Rules, isIn}
 use Rattle.gates.specs.World.{Word, Hello, Reply, Packet, Empty, Gate, Note, World, Ev, Tick, Greets, Puts, Lies, Brings, Restarts, Drops, Stays, changed, emptyGate, isNew, world}
-use Rattle.gates.specs.Promise.{lied}
+use Rattle.gates.specs.Promise.{lied, GreetsBelow}
 
 -- What a call did: the memory after it; the words that went out, what was put in and what came out by it, and the tags that it drew, each latest first.
 pub record Did (S : Type 0) : Type 0 where
@@ -17,21 +17,21 @@ pub record Did (S : Type 0) : Type 0 where
   pub out : List Note
   pub drew : List ℕ
 
--- the event is gate a's own; code does not lie
-abbrev pub OfGate : ℕ → Ev → Type 0
-OfGate a (Tick b) = b ≡ a
-OfGate a (Greets b e t) = b ≡ a
-OfGate a (Puts b x) = b ≡ a
-OfGate a (Lies b e x) = ⊥
-OfGate a (Brings e i t) = e ≡ a
-OfGate a (Restarts b) = b ≡ a
-OfGate a (Drops b m) = b ≡ a
-OfGate a (Stays b m) = b ≡ a
+-- the event is gate a's own, and greets none but the k gates that there are; code does not lie
+abbrev pub OfGate : (k a : ℕ) → Ev → Type 0
+OfGate k a (Tick b) = b ≡ a
+OfGate k a (Greets b e t) = (b ≡ a) × (e < k)
+OfGate k a (Puts b x) = b ≡ a
+OfGate k a (Lies b e x) = ⊥
+OfGate k a (Brings e i t) = e ≡ a
+OfGate k a (Restarts b) = b ≡ a
+OfGate k a (Drops b m) = b ≡ a
+OfGate k a (Stays b m) = b ≡ a
 
 -- all of these events are
-unfoldable pub AllOfGate : ℕ → List Ev → Type 0
-AllOfGate a [] = Unit {0}
-AllOfGate a (e ∷ es) = OfGate a e × AllOfGate a es
+unfoldable pub AllOfGate : (k a : ℕ) → List Ev → Type 0
+AllOfGate k a [] = Unit {0}
+AllOfGate k a (e ∷ es) = OfGate k a e × AllOfGate k a es
 
 -- these tags may be drawn one after the other: none is 0, none was drawn before, none stands here twice
 unfoldable pub AllNew : List ℕ → World → Type 0
@@ -51,6 +51,8 @@ pub record Code (r : Rules) : Type 1 where
   -- a gate's memory, and what its owner can ask of it
   pub State : Type 0
   pub Call : Type 0
+  -- how many gates there are
+  pub gates : ℕ
   -- the tags that a call may draw
   pub offers : Call → List ℕ
   -- what a call does, and what a word that is brought does, with the tags that may be drawn for it
@@ -59,16 +61,16 @@ pub record Code (r : Rules) : Type 1 where
   -- for which clock and abstract gate a memory stands: a relation, since code forgets what can no longer matter
   pub Stands : (a : ℕ) → State → ℕ → Gate → Type 0
   pub first : ℕ → State
-  pub first-stands : (a : ℕ) → Stands a (first a) 1 emptyGate
+  pub first-stands : (a : ℕ) → a < gates → Stands a (first a) 1 emptyGate
   -- the events, latest first, that a call is, and that a word brought from this place of the net is
   pub doing : (a : ℕ) → Call → State → List Ev
   pub hearing : (a : ℕ) → Word → (tags : List ℕ) → State → (place : ℕ) → List Ev
-  pub doing-own : (a : ℕ) (c : Call) (s : State) → AllOfGate a (doing a c s)
-  pub hearing-own : (a : ℕ) (x : Word) (ts : List ℕ) (s : State) (i : ℕ) → AllOfGate a (hearing a x ts s i)
-  -- in every run whose gate the memory stands for, the call does what those events do
-  pub does-so : (es : List Ev) (a : ℕ) (c : Call) (s : State) → Stands a s (world r es .now a) (world r es .gates a) → AllNew (offers c) (world r es) →
+  pub doing-own : (a : ℕ) (c : Call) (s : State) → AllOfGate gates a (doing a c s)
+  pub hearing-own : (a : ℕ) (x : Word) (ts : List ℕ) (s : State) (i : ℕ) → AllOfGate gates a (hearing a x ts s i)
+  -- in every run of gates that are there, and whose gate a the memory stands for, the call does what those events do
+  pub does-so : (es : List Ev) (a : ℕ) (c : Call) (s : State) → a < gates → GreetsBelow gates es → Stands a s (world r es .now a) (world r es .gates a) → AllNew (offers c) (world r es) →
       Follows (Stands a) a (world r es) (world r (doing a c s ++ es)) (does a c s)
-  pub hears-so : (es : List Ev) (a : ℕ) (x : Word) (ts : List ℕ) (s : State) (i : ℕ) → Stands a s (world r es .now a) (world r es .gates a) → At i x (world r es .net) → AllNew ts (world r es) →
+  pub hears-so : (es : List Ev) (a : ℕ) (x : Word) (ts : List ℕ) (s : State) (i : ℕ) → a < gates → GreetsBelow gates es → Stands a s (world r es .now a) (world r es .gates a) → At i x (world r es .net) → AllNew ts (world r es) →
       Follows (Stands a) a (world r es) (world r (hearing a x ts s i ++ es)) (hears a x ts s)
 
 -- Any number of gates that run this code, and a net that keeps every word and brings any of them to anybody.
@@ -112,21 +114,22 @@ module _ (r : Rules) (c : Code r) where
   NewIn [] drawn = Unit {0}
   NewIn (t ∷ ts) drawn = (isIn t drawn ≡ false) × (t ≡ 0 → ⊥) × (isIn t ts ≡ false) × NewIn ts drawn
 
-  -- every tag that is offered is new
-  unfoldable pub Drawing : List Act → Type 0
-  Drawing [] = Unit {0}
-  Drawing (Asks a x ∷ acts) = NewIn (c .offers x) (play acts .drawn) × Drawing acts
-  Drawing (Brought a i ts ∷ acts) = NewIn ts (play acts .drawn) × Drawing acts
+  -- every act is of a gate that is there, and every tag that is offered is new
+  unfoldable pub Fair : List Act → Type 0
+  Fair [] = Unit {0}
+  Fair (Asks a x ∷ acts) = (a < c .gates) × NewIn (c .offers x) (play acts .drawn) × Fair acts
+  Fair (Brought a i ts ∷ acts) = (a < c .gates) × NewIn ts (play acts .drawn) × Fair acts
 
   -- the gates and the net are those of the world after these events, in which nobody lies
   pub record Plays (f : Field) (es : List Ev) : Type 0 where
-    pub stands : (a : ℕ) → c .Stands a (f .states a) (world r es .now a) (world r es .gates a)
+    pub stands : (a : ℕ) → a < c .gates → c .Stands a (f .states a) (world r es .now a) (world r es .gates a)
     pub net-so : world r es .net ≡ f .net
     pub put-so : world r es .put ≡ f .put
     pub out-so : world r es .out ≡ f .out
     pub drawn-so : world r es .drawn ≡ f .drawn
+    pub below : GreetsBelow (c .gates) es
     pub honest : (a : ℕ) → lied a es ≡ false
 
 -- Whatever gates with such code and a net do, while drawn tags are new, is a run of the abstract protocol: so its promise holds of them.
 abbrev pub CodeKeeps : Type 1
-CodeKeeps = (r : Rules) (c : Code r) (acts : List (Act r c)) → Drawing r c acts → (es : List Ev) × Plays r c (play r c acts) es
+CodeKeeps = (r : Rules) (c : Code r) (acts : List (Act r c)) → Fair r c acts → (es : List Ev) × Plays r c (play r c acts) es
