@@ -1,0 +1,4 @@
+pub mod Slots
+pub mod Talks
+pub mod Peers
+pub mod Steps

@@ -1,0 +1,4 @@
+pub mod Bits
+pub mod Ring
+pub mod Heard
+pub mod Edges
