@@ -67,6 +67,8 @@ pub record Code (r : Rules) : Type 1 where
   pub hearing : (a : ℕ) → Word → (tags : List ℕ) → State → (place : ℕ) → List Ev
   pub doing-own : (a : ℕ) (c : Call) (s : State) → AllOfGate gates a (doing a c s)
   pub hearing-own : (a : ℕ) (x : Word) (ts : List ℕ) (s : State) (i : ℕ) → AllOfGate gates a (hearing a x ts s i)
+  -- a word that is brought is delivered: so what the promise says of deliveries, it says of this code
+  pub hearing-brings : (a : ℕ) (x : Word) (ts : List ℕ) (s : State) (i : ℕ) → (t : ℕ) × (earlier : List Ev) × (hearing a x ts s i ≡ Brings a i t ∷ earlier)
   -- in every run of gates that are there, and whose gate a the memory stands for, the call does what those events do
   pub does-so : (es : List Ev) (a : ℕ) (c : Call) (s : State) → a < gates → GreetsBelow gates es → Stands a s (world r es .now a) (world r es .gates a) → AllNew (offers c) (world r es) →
       Follows (Stands a) a (world r es) (world r (doing a c s ++ es)) (does a c s)
@@ -130,6 +132,7 @@ module _ (r : Rules) (c : Code r) where
     pub below : GreetsBelow (c .gates) es
     pub honest : (a : ℕ) → lied a es ≡ false
 
--- Whatever gates with such code and a net do, while drawn tags are new, is a run of the abstract protocol: so its promise holds of them.
+-- Whatever gates with such code and a net do, while drawn tags are new, is a run of the abstract protocol in which nobody lies: so all that its promise says of
+-- what is there holds of them. That they can and will send is said of the code's own calls.
 abbrev pub CodeKeeps : Type 1
 CodeKeeps = (r : Rules) (c : Code r) (acts : List (Act r c)) → Fair r c acts → (es : List Ev) × Plays r c (play r c acts) es
