@@ -1,0 +1,6 @@
+pub mod Sessions
+pub mod Asking
+pub mod Standing
+pub mod Asked
+pub mod Taking
+pub mod Followed
