@@ -16,7 +16,7 @@ use Rattle.gates.proofs.Memories.{changed-both}
 use Rattle.gates.proofs.Can.{changed-there}
 
 -- gate j has its memory and its clock as they were
-record Untouched (j : ℕ) (w v : World) : Type 0 where
+pub record Untouched (j : ℕ) (w v : World) : Type 0 where
   pub gate-so : v .gates j ≡ w .gates j
   pub now-so : v .now j ≡ w .now j
 
@@ -70,7 +70,7 @@ module _ (r : Rules) (j : ℕ) where
   step-there w k a (Drops b m) o ne = record { gate-so = changed-there b _ (w .gates) j (λ s. ne (s ∙ o)); now-so = refl }
   step-there w k a (Stays b m) o ne = stays-there w b (byMine m (w .gates b .talks)) (λ s. ne (s ∙ o))
 
-  run-there : (k a : ℕ) (vs es : List Ev) → AllOfGate k a vs → (j ≡ a → ⊥) → Untouched j (world r es) (world r (vs ++ es))
+  pub run-there : (k a : ℕ) (vs es : List Ev) → AllOfGate k a vs → (j ≡ a → ⊥) → Untouched j (world r es) (world r (vs ++ es))
   unfolding AllOfGate world
   run-there k a [] es o ne = same (world r es)
   run-there k a (v ∷ vs) es o ne =
@@ -90,13 +90,13 @@ step-honest k a b (Drops d m) es o e = e
 step-honest k a b (Stays d m) es o e = e
 
 -- nobody lies in a gate's own events
-run-honest : (k a b : ℕ) (vs es : List Ev) → AllOfGate k a vs → lied b es ≡ false → lied b (vs ++ es) ≡ false
+pub run-honest : (k a b : ℕ) (vs es : List Ev) → AllOfGate k a vs → lied b es ≡ false → lied b (vs ++ es) ≡ false
 unfolding AllOfGate
 run-honest k a b [] es o e = e
 run-honest k a b (v ∷ vs) es o e = step-honest k a b v (vs ++ es) (o .0) (run-honest k a b vs es (o .1) e)
 
 -- and nobody greets or is greeted who is not there
-run-below : (k a : ℕ) (vs es : List Ev) → a < k → AllOfGate k a vs → GreetsBelow k es → GreetsBelow k (vs ++ es)
+pub run-below : (k a : ℕ) (vs es : List Ev) → a < k → AllOfGate k a vs → GreetsBelow k es → GreetsBelow k (vs ++ es)
 unfolding AllOfGate GreetsBelow
 run-below k a [] es l o g = g
 run-below k a (Tick b ∷ vs) es l o g = run-below k a vs es l (o .1) g

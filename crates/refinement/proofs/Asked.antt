@@ -226,7 +226,7 @@ module _ (k life most : ℕ) (fits : most < 2 ^ 32) (owner : ℕ → ℕ) where
 
   -- what making a hello did, by its answer and the memory after
   abbrev saying : ℕ → Option Word → Gateway → Did Gateway
-  saying t o s = record { after = s; sent = sentAs owner nothing o; put = []; out = []; drew = drawnAs owner t o }
+  saying t o s = record { after = s; sent = sentAs nothing o; put = []; out = []; drew = drawnAs t o }
 
   -- a memory in which one more hello to gate e waits
   asked-stands : (s : Gateway) (now : ℕ) (g : Gate) (a e t : ℕ) → Stands k life most a s now g → isPeer e s ≡ true → isGreeted (s .now) (peerAt e s) ≡ false →
@@ -347,7 +347,7 @@ module _ (k life most : ℕ) (fits : most < 2 ^ 32) (owner : ℕ → ℕ) where
 
   -- what putting a packet in did, by the word that it went out in and the memory after
   abbrev putting : Inner → Option Word → Gateway → Did Gateway
-  putting x o s = record { after = s; sent = sentAs owner x o; put = putAs owner x o; out = []; drew = [] }
+  putting x o s = record { after = s; sent = sentAs x o; put = putAs x o; out = []; drew = [] }
 
   -- the next number of a talk is used, in both
   sent-same : (t : Session) (u : Talk) → u .sent < most → SameTalk t u → SameTalk (abstract.sentOne t) (sentOne u)
@@ -379,18 +379,18 @@ module _ (k life most : ℕ) (fits : most < 2 ^ 32) (owner : ℕ → ℕ) where
       goal = owner (x .to)
 
       D : Type 0
-      D = Follows (Stands k life most a) a w (step r (Puts a x) w) (putting x (goneOut owner (put source goal s)) (putAfter source goal s))
+      D = Follows (Stands k life most a) a w (step r (Puts a x) w) (putting x (goneOut (put source goal s)) (putAfter source goal s))
 
       -- nothing happens on either side
-      still : step r (Puts a x) w ≡ w → goneOut owner (put source goal s) ≡ None → putAfter source goal s ≡ s → D
+      still : step r (Puts a x) w ≡ w → goneOut (put source goal s) ≡ None → putAfter source goal s ≡ s → D
       still p q u =
           subst
-          (λ z. Follows (Stands k life most a) a w z (putting x (goneOut owner (put source goal s)) (putAfter source goal s)))
+          (λ z. Follows (Stands k life most a) a w z (putting x (goneOut (put source goal s)) (putAfter source goal s)))
           (sym p)
           (subst (λ d. Follows (Stands k life most a) a w w d) (ap₂ (putting x) (sym q) (sym u)) (record { stands = st; net-so = refl; put-so = refl; out-so = refl; drawn-so = refl }))
 
-      fault : (o : Option Refusal) → putFault source goal s ≡ o → (goneOut owner (put source goal s) ≡ goneOut owner (answer o (packetIn (s .own) source goal (sending goal s)))) × (putAfter source goal s ≡ leaves o s (sentAfter goal s (sending goal s)))
-      fault o e = (ap (λ z. goneOut owner (answer z (packetIn (s .own) source goal (sending goal s)))) e, ap (λ z. leaves z s (sentAfter goal s (sending goal s))) e)
+      fault : (o : Option Refusal) → putFault source goal s ≡ o → (goneOut (put source goal s) ≡ goneOut (answer o (packetIn (s .own) source goal (sending goal s)))) × (putAfter source goal s ≡ leaves o s (sentAfter goal s (sending goal s)))
+      fault o e = (ap (λ z. goneOut (answer z (packetIn (s .own) source goal (sending goal s)))) e, ap (λ z. leaves z s (sentAfter goal s (sending goal s))) e)
 
       -- a talk is used, on both sides
       used : (t : Session) (u : Talk) → isPeer goal s ≡ true → firstThat (maySend (s .now) (s .life) (s .most)) (peerAt goal s .talks) ≡ Some u → In t (withPeer goal (g .talks)) → SameTalk t u →
@@ -455,7 +455,7 @@ module _ (k life most : ℕ) (fits : most < 2 ^ 32) (owner : ℕ → ℕ) where
       by-goal true pg h =
           let fl = fault None (cond-true (eqb source (s .own)) _ _ h ∙ cond-true (isPeer goal s) _ _ pg) in
           subst
-          (λ z. Follows (Stands k life most a) a w z (putting x (goneOut owner (put source goal s)) (putAfter source goal s)))
+          (λ z. Follows (Stands k life most a) a w z (putting x (goneOut (put source goal s)) (putAfter source goal s)))
           (sym (cond-true (eqb source a && not (eqb goal a)) (sends a x (forSending r (w .now a) goal (g .talks)) w) w (and-from (eqb source a) (not (eqb goal a)) (ap (λ z. eqb source z) (sym (st .own-so)) ∙ h) (not-from-false (eqb goal a) (ne-eqb goal a (λ z. peer-other goal s pg (st .own-so ∙ sym z)))))))
           (subst
           (λ d. Follows (Stands k life most a) a w (sends a x (forSending r (w .now a) goal (g .talks)) w) d)

@@ -67,14 +67,14 @@ put-follows source goal s res after er ea k life most owner es a x fits from to 
     a-is : putAfter (owner (x .from)) (owner (x .to)) s ≡ after
     a-is = (λ j. putAfter (from j) (to j) s) ∙ sym ea
 
-    same : does owner a (Sends x) s ≡ record { after = after; sent = sentAs owner x (goneOut owner res); put = putAs owner x (goneOut owner res); out = []; drew = [] }
-    same j = record { after = a-is j; sent = sentAs owner x (goneOut owner (r-is j)); put = putAs owner x (goneOut owner (r-is j)); out = []; drew = [] }
+    same : does owner a (Sends x) s ≡ record { after = after; sent = sentAs x (goneOut res); put = putAs x (goneOut res); out = []; drew = [] }
+    same j = record { after = a-is j; sent = sentAs x (goneOut (r-is j)); put = putAs x (goneOut (r-is j)); out = []; drew = [] }
 
 pub greet-follows : (e t : ℕ) (s : Gateway) (res : Option Word) (after : Gateway) → res ≡ greet e t s → after ≡ greetAfter e t s → GreetFollows e t s res after
 greet-follows e t s res after er ea k life most owner es a fits st new =
     subst
     (λ d. Follows (Stands k life most a) a (world (rulesOf life most owner) es) (world (rulesOf life most owner) (doing a (Says e t) s ++ es)) d)
-    (λ j. record { after = sym ea j; sent = sentAs owner Rattle.refinement.specs.Calls.nothing (sym er j); put = []; out = []; drew = drawnAs owner t (sym er j) })
+    (λ j. record { after = sym ea j; sent = sentAs Rattle.refinement.specs.Calls.nothing (sym er j); put = []; out = []; drew = drawnAs t (sym er j) })
     (says-so k life most fits owner es a e t s st new)
 
 pub tick-follows : (s after : Gateway) → after ≡ ticked s → TickFollows s after

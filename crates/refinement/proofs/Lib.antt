@@ -4,3 +4,4 @@ pub mod Standing
 pub mod Asked
 pub mod Taking
 pub mod Followed
+pub mod Playing

@@ -122,7 +122,7 @@ module _ (k life most : ℕ) (few : k ≤ 32) (owner : ℕ → ℕ) where
   none-some f e = let z : _≡_ {A = ℕ} 0 1 = cc in omega arith
 
   -- a hello has no fault: each test passed
-  hello-none : (p z o n : Bool) → cond p (cond z (Some ZeroTag) (cond o (Some OldHello) (cond n (Some NoDrawnBytes) None))) (Some WrongGate) ≡ None →
+  pub hello-none : (p z o n : Bool) → cond p (cond z (Some ZeroTag) (cond o (Some OldHello) (cond n (Some NoDrawnBytes) None))) (Some WrongGate) ≡ None →
       (p ≡ true) × (z ≡ false) × (o ≡ false) × (n ≡ false)
   hello-none false z o n e = absurd (none-some WrongGate e)
   hello-none true true o n e = absurd (none-some ZeroTag e)
@@ -417,7 +417,7 @@ module _ (k life most : ℕ) (few : k ≤ 32) (owner : ℕ → ℕ) where
   not-ok f u e = let z : _≡_ {A = ℕ} 0 1 = cc in omega arith
 
   -- a talk was found: each test passed
-  talk-tests : (p z : Bool) (v : Result Talk Refusal) (u : Talk) → cond p (cond z (Err ZeroTag) v) (Err WrongGate) ≡ Ok u → (p ≡ true) × (z ≡ false) × (v ≡ Ok u)
+  pub talk-tests : (p z : Bool) (v : Result Talk Refusal) (u : Talk) → cond p (cond z (Err ZeroTag) v) (Err WrongGate) ≡ Ok u → (p ≡ true) × (z ≡ false) × (v ≡ Ok u)
   talk-tests false z v u e = absurd (not-ok WrongGate u e)
   talk-tests true true v u e = absurd (not-ok ZeroTag u e)
   talk-tests true false v u e = (refl, refl, e)
@@ -554,7 +554,7 @@ module _ (k life most : ℕ) (few : k ≤ 32) (owner : ℕ → ℕ) where
           fd = found-talk a by f m h n s u (st .life-so) q .0
 
   -- the parts of a packet's answer
-  owned-ok : (b : Bool) (v : Result Talk Refusal) (u : Talk) → ifOwned b v ≡ Ok u → (b ≡ true) × (v ≡ Ok u)
+  pub owned-ok : (b : Bool) (v : Result Talk Refusal) (u : Talk) → ifOwned b v ≡ Ok u → (b ≡ true) × (v ≡ Ok u)
   owned-ok true (Ok t) u e = (refl, e)
   owned-ok false (Ok t) u e = absurd (not-ok ForeignAddress u e)
   owned-ok b (Err f) u e = absurd (not-ok f u e)

@@ -61,9 +61,9 @@ asWord x (Reply a e t k) = ReplyWord a e t k
 asWord x (Packet a e m h n source goal) = PacketWord a e m h n x
 asWord x (Empty a e m h n) = EmptyWord a e m h n
 
--- no packet
+-- what stands for the packet of a word that carries none
 abbrev pub nothing : Inner
-nothing = record { from = 0; to = 0; what = [] }
+nothing = record { from = 0; to = 0; what = 0 ∷ [] }
 
 -- the words that go out for an answer
 abbrev pub sentFor : Result Taken Refusal → List Sealed
@@ -102,6 +102,29 @@ dropsFor a p (Ok Out) = []
 dropsFor a p (Ok Alive) = []
 dropsFor a p (Err f) = []
 
+-- the word that a hello or a packet goes out in
+abbrev pub sentAs : Inner → Option Word → List Sealed
+sentAs x None = []
+sentAs x (Some w) = asWord x w ∷ []
+
+-- what was put in for it
+abbrev pub putAs : Inner → Option Word → List Note
+putAs x None = []
+putAs x (Some (Hello a e t n)) = []
+putAs x (Some (Reply a e t k)) = []
+putAs x (Some (Packet a e m h n source goal)) = note a e m h n x ∷ []
+putAs x (Some (Empty a e m h n)) = []
+
+-- the answer to a packet that was put in
+abbrev pub goneOut : Result (Option Word) Refusal → Option Word
+goneOut (Ok w) = w
+goneOut (Err f) = None
+
+-- a tag, if a hello was made
+abbrev pub drawnAs : ℕ → Option Word → List ℕ
+drawnAs t None = []
+drawnAs t (Some w) = t ∷ []
+
 module _ (owner : ℕ → ℕ) where
   -- A WORD IS BROUGHT to gate a: what the code answers decides all that is added.
   abbrev pub hears : (a : ℕ) → Sealed → (tags : List ℕ) → Gateway → Did Gateway
@@ -117,29 +140,6 @@ module _ (owner : ℕ → ℕ) where
   -- It is a delivery, after a drop where three talks were had; a refusal is a delivery that changes nothing.
   abbrev pub hearing : (a : ℕ) → Sealed → (tags : List ℕ) → Gateway → (place : ℕ) → List Ev
   hearing a x ts s i = Brings a i (drawnOf ts) ∷ dropsFor a (peerAt (byOf x) s) (took (asCode owner x) (drawnOf ts) s)
-
-  -- the word that a hello or a packet goes out in
-  abbrev pub sentAs : Inner → Option Word → List Sealed
-  sentAs x None = []
-  sentAs x (Some w) = asWord x w ∷ []
-
-  -- what was put in for it
-  abbrev pub putAs : Inner → Option Word → List Note
-  putAs x None = []
-  putAs x (Some (Hello a e t n)) = []
-  putAs x (Some (Reply a e t k)) = []
-  putAs x (Some (Packet a e m h n source goal)) = note a e m h n x ∷ []
-  putAs x (Some (Empty a e m h n)) = []
-
-  -- the answer to a packet that was put in
-  abbrev pub goneOut : Result (Option Word) Refusal → Option Word
-  goneOut (Ok w) = w
-  goneOut (Err f) = None
-
-  -- a tag, if a hello was made
-  abbrev pub drawnAs : ℕ → Option Word → List ℕ
-  drawnAs t None = []
-  drawnAs t (Some w) = t ∷ []
 
   -- SOMETHING IS ASKED of gate a.
   abbrev pub does : (a : ℕ) → Call → Gateway → Did Gateway

@@ -1,3 +1,4 @@
 pub mod Relation
 pub mod Calls
 pub mod Steps
+pub mod Sea

@@ -31,14 +31,14 @@ abbrev pub PutFollows : (source goal : ℕ) → Gateway → Result (Option Word)
 PutFollows source goal s res after =
     (k life most : ℕ) (owner : ℕ → ℕ) (es : List Ev) (a : ℕ) (x : Inner) → most < 2 ^ 32 → owner (x .from) ≡ source → owner (x .to) ≡ goal →
     Stands k life most a s (world (rulesOf life most owner) es .now a) (world (rulesOf life most owner) es .gates a) →
-    Follows (Stands k life most a) a (world (rulesOf life most owner) es) (world (rulesOf life most owner) (Puts a x ∷ es)) (record { after = after; sent = sentAs owner x (goneOut owner res); put = putAs owner x (goneOut owner res); out = []; drew = [] })
+    Follows (Stands k life most a) a (world (rulesOf life most owner) es) (world (rulesOf life most owner) (Puts a x ∷ es)) (record { after = after; sent = sentAs x (goneOut res); put = putAs x (goneOut res); out = []; drew = [] })
 
 -- For a tag that is new:
 abbrev pub GreetFollows : (gate tag : ℕ) → Gateway → Option Word → Gateway → Type 0
 GreetFollows e t s res after =
     (k life most : ℕ) (owner : ℕ → ℕ) (es : List Ev) (a : ℕ) → most < 2 ^ 32 → Stands k life most a s (world (rulesOf life most owner) es .now a) (world (rulesOf life most owner) es .gates a) →
     AllNew (t ∷ []) (world (rulesOf life most owner) es) →
-    Follows (Stands k life most a) a (world (rulesOf life most owner) es) (world (rulesOf life most owner) (doing a (Says e t) s ++ es)) (record { after = after; sent = sentAs owner nothing res; put = []; out = []; drew = drawnAs owner t res })
+    Follows (Stands k life most a) a (world (rulesOf life most owner) es) (world (rulesOf life most owner) (doing a (Says e t) s ++ es)) (record { after = after; sent = sentAs nothing res; put = []; out = []; drew = drawnAs t res })
 
 -- nothing goes in or out
 abbrev pub quietly : Gateway → Did Gateway
