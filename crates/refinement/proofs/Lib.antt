@@ -5,3 +5,4 @@ pub mod Asked
 pub mod Taking
 pub mod Followed
 pub mod Playing
+pub mod Begins

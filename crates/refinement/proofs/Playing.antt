@@ -4,6 +4,7 @@ use mathlib.Core.Bool.{Bool, true, false, cond, _&&_, _||_, not}
 use mathlib.Core.Logic.{_⊎_, inl, inr, ⊎-elim}
 use mathlib.Core.List.{List, [], _∷_, _++_, append-assoc, append-nil, List·Memᴰ·head, List·Memᴰ·tail, List·Memᴰ·cases-cons, List·Memᴰ·not-nil, Memᴰ·append-left, Memᴰ·append-right}
 use Prim.Native.Nat.{ℕ, zero, suc, _+_, _-_, _^_, _<_, _≤_}
+use native.Mathlib.Nat.{le-of-suc-le-suc}
 use native.Mathlib.Omega.{arith}
 use lib.Dec.{eqb, ltb, leb}
 use lib.ListN.{length, getD, set, length-set}
@@ -41,7 +42,7 @@ use Rattle.refinement.specs.declared.state.Event.the-variants.{Tick, Restart, 
 use Rattle.refinement.specs.declared.state.Outcome.{Outcome}
 use Rattle.refinement.specs.Relation.{rulesOf, Stands}
 use Rattle.refinement.specs.Calls.{Ticks, Says, Sends, Falls, asCode, asWord, drawnOf, hears, hearing, does, doing, goneOut, sentAs, putAs, drawnAs, nothing, sentFor, outFor, drewFor, dropsOldest, dropsFor}
-use Rattle.refinement.specs.Sea.{ownerIn, innerOf, nobody, sealedOf, Books, letterOf, silent, broughtOut, listOf, noGate, entered, ifThere, bringsAt, happens, plays, tagOf, tagsOf, backwards, wordsOf, putsOf, outsOf, Reached, Kept, Plays}
+use Rattle.refinement.specs.Sea.{ownerIn, innerOf, nobody, sealedOf, Books, letterOf, silent, broughtOut, listOf, noGate, entered, noLetter, gateOf, letterIn, isThere, afterOf, outcomeOf, happens, plays, tagOf, tagsOf, backwards, wordsOf, putsOf, outsOf, Reached, Kept, Plays}
 use Rattle.refinement.proofs.Asked.{ticks-so, falls-so, says-so, sends-so}
 use Rattle.refinement.proofs.Taking.{owned-ok, talk-tests, hello-none}
 use Rattle.refinement.proofs.Followed.{hears-so}
@@ -79,19 +80,19 @@ module _ (k life most : ℕ) (few : k ≤ 32) (fits : most < 2 ^ 32) (owners : L
             λ j less.
             ⊎-elim
             (λ (e : j ≡ g).
-             subst
-             (λ z. Stands k life most j z (world r (vs ++ es) .now j) (world r (vs ++ es) .gates j))
-             (sym (ap (λ z. getD (set (b .gates) g s) z noGate) e ∙ getD-set-same (b .gates) g s noGate (let a = h .all in omega arith)))
-             (subst (λ z. Stands k life most z s (world r (vs ++ es) .now z) (world r (vs ++ es) .gates z)) (sym e) (subst (λ z. Stands k life most g z (world r (vs ++ es) .now g) (world r (vs ++ es) .gates g)) (m .after-so) (fl .stands))))
+            subst
+            (λ z. Stands k life most j z (world r (vs ++ es) .now j) (world r (vs ++ es) .gates j))
+            (sym (ap (λ z. getD (set (b .gates) g s) z noGate) e ∙ getD-set-same (b .gates) g s noGate (let a = h .all in omega arith)))
+            (subst (λ z. Stands k life most z s (world r (vs ++ es) .now z) (world r (vs ++ es) .gates z)) (sym e) (subst (λ z. Stands k life most g z (world r (vs ++ es) .now g) (world r (vs ++ es) .gates g)) (m .after-so) (fl .stands))))
             (λ ne.
-             let u = run-there r j k g vs es own ne in
-             subst
-             (λ z. Stands k life most j z (world r (vs ++ es) .now j) (world r (vs ++ es) .gates j))
-             (sym (getD-set-other (b .gates) g j s noGate ne))
-             (subst
-              (λ z. Stands k life most j (getD (b .gates) j noGate) (world r (vs ++ es) .now j) z)
-              (sym (u .gate-so))
-              (subst (λ z. Stands k life most j (getD (b .gates) j noGate) z (world r es .gates j)) (sym (u .now-so)) (h .stands j less))))
+            let u = run-there r j k g vs es own ne in
+            subst
+            (λ z. Stands k life most j z (world r (vs ++ es) .now j) (world r (vs ++ es) .gates j))
+            (sym (getD-set-other (b .gates) g j s noGate ne))
+            (subst
+            (λ z. Stands k life most j (getD (b .gates) j noGate) (world r (vs ++ es) .now j) z)
+            (sym (u .gate-so))
+            (subst (λ z. Stands k life most j (getD (b .gates) j noGate) z (world r es .gates j)) (sym (u .now-so)) (h .stands j less))))
             (cases-eq j g);
         net-so = fl .net-so ∙ (ap₂ (λ x y. x ++ y) (m .sent-so) (h .net-so) ∙ sym (backwards-append _ (b .net) (listOf (o .sent))));
         put-so = fl .put-so ∙ (ap₂ (λ x y. x ++ y) (m .put-so) (h .put-so) ∙ sym (backwards-append _ (b .put) (listOf (o .put))));
@@ -116,11 +117,12 @@ module _ (k life most : ℕ) (few : k ≤ 32) (fits : most < 2 ^ 32) (owners : L
   grown-new t (u ∷ us) w v e h n =
       let q = or-parts (eqb u t) (isIn t us) h in
       let p = and-parts (not (isIn u (w .drawn))) (not (eqb u 0)) (n .0) in
-      let ne : eqb t u ≡ false = ne-eqb t u (λ z. eqb-false u t (q .0) (sym z)) in
-      (ap (λ z. not (isIn u z) && not (eqb u 0)) e ∙
-       and-from (not (eqb t u || isIn u (w .drawn))) (not (eqb u 0)) (not-from-false (eqb t u || isIn u (w .drawn)) (or-from (eqb t u) (isIn u (w .drawn)) ne (not-true (isIn u (w .drawn)) (p .0)))) (p .1),
-       n .1,
-       grown-new t us w v e (q .1) (n .2))
+      let ne : eqb t u ≡ false = ne-eqb t u (λ z. eqb-false u t (q .0) (sym z)) in (
+        ap (λ z. not (isIn u z) && not (eqb u 0)) e ∙
+            and-from (not (eqb t u || isIn u (w .drawn))) (not (eqb u 0)) (not-from-false (eqb t u || isIn u (w .drawn)) (or-from (eqb t u) (isIn u (w .drawn)) ne (not-true (isIn u (w .drawn)) (p .0)))) (p .1),
+        n .1,
+        grown-new t us w v e (q .1) (n .2),
+      )
 
   new-parts : (t : ℕ) (rest : List ℕ) (w : World) → AllNew (t ∷ rest) w → (isIn t rest ≡ false) × AllNew rest w
   unfolding AllNew
@@ -145,24 +147,31 @@ module _ (k life most : ℕ) (few : k ≤ 32) (fits : most < 2 ^ 32) (owners : L
   stayed : (b : Books) (es : List Ev) (ts rest : List ℕ) → Reached k life most (ownerIn owners) b es → AllNew (ts ++ rest) (world r es) → Went b es rest
   stayed b es ts rest h n = record { later = []; reached = h; new = skip-new ts rest (world r es) n }
 
-  -- a gate that is there does something
-  there : (b : Books) (es : List Ev) (ts rest : List ℕ) (g : ℕ) (after : Gateway → Gateway) (outcome : Gateway → Outcome) → Reached k life most (ownerIn owners) b es → AllNew (ts ++ rest) (world r es) →
-      (g < k → Stands k life most g (getD (b .gates) g noGate) (world r es .now g) (world r es .gates g) →
-       (vs : List Ev) × (d : Did Gateway) × AllOfGate k g vs × Follows (Stands k life most g) g (world r es) (world r (vs ++ es)) d × Matches d (after (getD (b .gates) g noGate)) (outcome (getD (b .gates) g noGate)) × Drew (d .drew) ts) →
-      Went (ifThere g after outcome b) es rest
-  there b es ts rest g after outcome h n does′ = go (ltb g (length (b .gates))) refl
+  -- what a gate does that is there: its events, what they do, and that the outcome is just that
+  abbrev Act : Event → Books → List Ev → Type 0
+  Act e b es =
+      (vs : List Ev) × (d : Did Gateway) × AllOfGate k (gateOf e) vs × Follows (Stands k life most (gateOf e)) (gateOf e) (world r es) (world r (vs ++ es)) d ×
+      Matches d (afterOf owners e (letterIn e (b .net)) (getD (b .gates) (gateOf e) noGate)) (outcomeOf owners e (letterIn e (b .net)) (getD (b .gates) (gateOf e) noGate)) × Drew (d .drew) (tagOf e)
+
+  -- the event happens, or nothing does
+  there : (e : Event) (b : Books) (es : List Ev) (rest : List ℕ) → Reached k life most (ownerIn owners) b es → AllNew (tagOf e ++ rest) (world r es) →
+      (gateOf e < k → isThere e (b .net) ≡ true → Stands k life most (gateOf e) (getD (b .gates) (gateOf e) noGate) (world r es .now (gateOf e)) (world r es .gates (gateOf e)) → Act e b es) →
+      Went (happens owners e b) es rest
+  there e b es rest h n does′ = go (ltb (gateOf e) (length (b .gates)) && isThere e (b .net)) refl
     where
       s : Gateway
-      s = getD (b .gates) g noGate
-      go : (c : Bool) → ltb g (length (b .gates)) ≡ c → Went (cond c (entered g (after s) (outcome s) b) b) es rest
-      go false e = stayed b es ts rest h n
-      go true e =
-          let less : g < k = let l = ltb-true g (length (b .gates)) e in let q = h .all in omega arith in
-          let z = does′ less (h .stands g less) in
+      s = getD (b .gates) (gateOf e) noGate
+
+      go : (c : Bool) → (ltb (gateOf e) (length (b .gates)) && isThere e (b .net)) ≡ c → Went (cond c (entered (gateOf e) (afterOf owners e (letterIn e (b .net)) s) (outcomeOf owners e (letterIn e (b .net)) s) b) b) es rest
+      go false c = stayed b es (tagOf e) rest h n
+      go true c =
+          let p = and-parts (ltb (gateOf e) (length (b .gates))) (isThere e (b .net)) c in
+          let less : gateOf e < k = let l = ltb-true (gateOf e) (length (b .gates)) (p .0) in let q = h .all in omega arith in
+          let z = does′ less (p .1) (h .stands (gateOf e) less) in
           record {
             later = z .0;
-            reached = acts b es (z .0) g (after s) (outcome s) (z .1) h less (z .2) (z .3) (z .4);
-            new = rest-new (z .1 .drew) ts rest (world r es) (world r (z .0 ++ es)) (z .3 .drawn-so) (z .5) n;
+            reached = acts b es (z .0) (gateOf e) (afterOf owners e (letterIn e (b .net)) s) (outcomeOf owners e (letterIn e (b .net)) s) (z .1) h less (z .2) (z .3) (z .4);
+            new = rest-new (z .1 .drew) (tagOf e) rest (world r es) (world r (z .0 ++ es)) (z .3 .drawn-so) (z .5) n;
           }
 
   own-cond : (g : ℕ) (c : Bool) (vs : List Ev) → (c ≡ true → AllOfGate k g vs) → AllOfGate k g (cond c vs [])
@@ -308,42 +317,47 @@ module _ (k life most : ℕ) (few : k ≤ 32) (fits : most < 2 ^ 32) (owners : L
   front-new true t rest w n = (n .0, refl, tt)
   front-new false t rest w n = tt
 
-  -- a letter of the net is brought
-  brought : (b : Books) (es : List Ev) (rest : List ℕ) (g t : ℕ) (l : Letter) → In l (b .net) → Reached k life most (ownerIn owners) b es →
-      AllNew (cond (ltb 0 t) (t ∷ []) [] ++ rest) (world r es) →
-      Went (ifThere g (tookAfter (asCode (ownerIn owners) (sealedOf l)) t) (λ s. broughtOut l (took (asCode (ownerIn owners) (sealedOf l)) t s)) b) es rest
-  brought b es rest g t l i h n =
-      there
-      b
-      es
-      ts
-      rest
-      g
-      (tookAfter (asCode (ownerIn owners) x) t)
-      (λ s. broughtOut l (took (asCode (ownerIn owners) x) t s))
-      h
-      n
-      (λ less st.
-       let s = getD (b .gates) g noGate in
-       let res = took (asCode (ownerIn owners) x) t s in
-       (hearing (ownerIn owners) g x ts s (at .0),
-        done s,
-        own-more g (Brings g (at .0) (drawnOf ts)) (dropsFor g (peerAt (byOf x) s) (took (asCode (ownerIn owners) x) (drawnOf ts) s)) refl (hearing-own g (peerAt (byOf x) s) (took (asCode (ownerIn owners) x) (drawnOf ts) s)),
-        subst
-        (λ d. Follows (Stands k life most g) g (world r es) (world r (hearing (ownerIn owners) g x ts s (at .0) ++ es)) d)
-        (λ j. did s (offered-is t j))
-        (hears-so k life most few (ownerIn owners) es g x ts s (at .0) (h .below) st (subst (At (at .0) x) (sym (h .net-so)) (at .1)) (front-new (ltb 0 t) t rest (world r es) n)),
-        brought-matches g t l (tookAfter (asCode (ownerIn owners) x) t s) res (λ e. out-for x t s e ∙ st .own-so),
-        brought-drew t ts res (λ w e. cond-true (ltb 0 t) (t ∷ []) [] (lt-ltb 0 t (reply-tag x t s w e)))))
+  -- the letter at a place of the net is in it
+  in-getD : (ls : List Letter) (i : ℕ) → i < length ls → In (getD ls i noLetter) ls
+  in-getD [] i l = absurd (none i l)
     where
+      none : (n : ℕ) → suc n ≤ 0 → ⊥
+      none n h = omega arith
+  in-getD (x ∷ xs) zero l = List·Memᴰ·head refl
+  in-getD (x ∷ xs) (suc i) l = List·Memᴰ·tail (in-getD xs i (le-of-suc-le-suc l))
+
+  -- a letter of the net is brought
+  brought : (b : Books) (es : List Ev) (rest : List ℕ) (g i t : ℕ) → Reached k life most (ownerIn owners) b es → AllNew (tagOf (Bring g i t) ++ rest) (world r es) →
+      g < k → isThere (Bring g i t) (b .net) ≡ true → Stands k life most g (getD (b .gates) g noGate) (world r es .now g) (world r es .gates g) → Act (Bring g i t) b es
+  brought b es rest g i t h n less here st = (
+    hearing (ownerIn owners) g x ts s (at .0),
+    did t,
+    own-more g (Brings g (at .0) (drawnOf ts)) (dropsFor g (peerAt (byOf x) s) (took (asCode (ownerIn owners) x) (drawnOf ts) s)) refl (hearing-own g (peerAt (byOf x) s) (took (asCode (ownerIn owners) x) (drawnOf ts) s)),
+    subst
+        (λ d. Follows (Stands k life most g) g (world r es) (world r (hearing (ownerIn owners) g x ts s (at .0) ++ es)) d)
+        (λ j. did (offered-is t j))
+        (hears-so k life most few (ownerIn owners) es g x ts s (at .0) (h .below) st (subst (At (at .0) x) (sym (h .net-so)) (at .1)) (front-new (ltb 0 t) t rest (world r es) n)),
+    brought-matches g t l (tookAfter (asCode (ownerIn owners) x) t s) (took (asCode (ownerIn owners) x) t s) (λ e. out-for x t s e ∙ st .own-so),
+    brought-drew t ts (took (asCode (ownerIn owners) x) t s) (λ w e. cond-true (ltb 0 t) (t ∷ []) [] (lt-ltb 0 t (reply-tag x t s w e))),
+  )
+    where
+      l : Letter
+      l = getD (b .net) i noLetter
+
       x : Sealed
       x = sealedOf l
+
       ts : List ℕ
       ts = cond (ltb 0 t) (t ∷ []) []
+
+      s : Gateway
+      s = getD (b .gates) g noGate
+
       at : (j : ℕ) × At j x (wordsOf (b .net))
-      at = in-at x (wordsOf (b .net)) (letter-in l (b .net) i)
-      did : Gateway → ℕ → Did Gateway
-      did s u =
+      at = in-at x (wordsOf (b .net)) (letter-in l (b .net) (in-getD (b .net) i (ltb-true i (length (b .net)) here)))
+
+      did : ℕ → Did Gateway
+      did u =
           record {
             after = tookAfter (asCode (ownerIn owners) x) u s;
             sent = sentFor (took (asCode (ownerIn owners) x) u s);
@@ -351,89 +365,66 @@ module _ (k life most : ℕ) (few : k ≤ 32) (fits : most < 2 ^ 32) (owners : L
             out = outFor g x (took (asCode (ownerIn owners) x) u s);
             drew = drewFor u (took (asCode (ownerIn owners) x) u s);
           }
-      done : Gateway → Did Gateway
-      done s = did s t
-
-  brings-in : (b : Books) (es : List Ev) (rest : List ℕ) (g i t : ℕ) (ls : List Letter) → ((l : Letter) → In l ls → In l (b .net)) → Reached k life most (ownerIn owners) b es →
-      AllNew (cond (ltb 0 t) (t ∷ []) [] ++ rest) (world r es) → Went (bringsAt owners g i t ls b) es rest
-  unfolding bringsAt
-  brings-in b es rest g i t [] sub h n = stayed b es (cond (ltb 0 t) (t ∷ []) []) rest h n
-  brings-in b es rest g zero t (l ∷ ls) sub h n = brought b es rest g t l (sub l (List·Memᴰ·head refl)) h n
-  brings-in b es rest g (suc i) t (l ∷ ls) sub h n = brings-in b es rest g i t ls (λ m j. sub m (List·Memᴰ·tail j)) h n
 
   -- whatever happens
   went : (e : Event) (b : Books) (es : List Ev) (rest : List ℕ) → Reached k life most (ownerIn owners) b es → AllNew (tagOf e ++ rest) (world r es) → Went (happens owners e b) es rest
   went (Tick g) b es rest h n =
       there
+      (Tick g)
       b
       es
-      []
       rest
-      g
-      ticked
-      (λ s. silent)
       h
       n
-      (λ less st.
-       let s = getD (b .gates) g noGate in
-       (doing g Ticks s, does (ownerIn owners) g Ticks s, own-cond g (ltb (s .now) (2 ^ 64 - 1)) (worlds.Tick g ∷ []) (λ e. own-one g (worlds.Tick g) refl), ticks-so k life most fits (ownerIn owners) es g s st, quiet-matches (ticked s), inl refl))
+      (λ less here st.
+      let s = getD (b .gates) g noGate in
+      (doing g Ticks s, does (ownerIn owners) g Ticks s, own-cond g (ltb (s .now) (2 ^ 64 - 1)) (worlds.Tick g ∷ []) (λ e. own-one g (worlds.Tick g) refl), ticks-so k life most fits (ownerIn owners) es g s st, quiet-matches (ticked s), inl refl))
   went (Restart g) b es rest h n =
       there
+      (Restart g)
       b
       es
-      []
       rest
-      g
-      restarted
-      (λ s. silent)
       h
       n
-      (λ less st.
-       let s = getD (b .gates) g noGate in
-       (doing g Falls s, does (ownerIn owners) g Falls s, own-one g (worlds.Restarts g) refl, falls-so k life most fits (ownerIn owners) es g s st, quiet-matches (restarted s), inl refl))
+      (λ less here st.
+      let s = getD (b .gates) g noGate in
+      (doing g Falls s, does (ownerIn owners) g Falls s, own-one g (worlds.Restarts g) refl, falls-so k life most fits (ownerIn owners) es g s st, quiet-matches (restarted s), inl refl))
   went (Greet g e t) b es rest h n =
       there
+      (Greet g e t)
       b
       es
-      (t ∷ [])
       rest
-      g
-      (greetAfter e t)
-      (λ s. record { sent = letterOf nobody (greet e t s); put = None; out = None })
       h
       n
-      (λ less st.
-       let s = getD (b .gates) g noGate in
-       (doing g (Says e t) s,
+      (λ less here st.
+      let s = getD (b .gates) g noGate in (
+        doing g (Says e t) s,
         does (ownerIn owners) g (Says e t) s,
         own-cond g (mayGreet e t s) (worlds.Greets g e t ∷ []) (λ m. own-one g (worlds.Greets g e t) (refl, greeted-below e t s (st .gates-so) m)),
         says-so k life most fits (ownerIn owners) es g e t s st (front-new true t rest (world r es) n),
-        greet-matches e t s,
-        greet-drew t (greet e t s)))
-    where
-      greet-matches : (e′ t′ : ℕ) (s : Gateway) → Matches (does (ownerIn owners) g (Says e′ t′) s) (greetAfter e′ t′ s) (record { sent = letterOf nobody (greet e′ t′ s); put = None; out = None })
-      greet-matches e′ t′ s = said (greet e′ t′ s) (greetAfter e′ t′ s) t′
+        said (greet e t s) (greetAfter e t s) t,
+        greet-drew t (greet e t s),
+      ))
   went (Put g p) b es rest h n =
       there
+      (Put g p)
       b
       es
-      []
       rest
-      g
-      (putAfter (ownerIn owners (p .from)) (ownerIn owners (p .to)))
-      (λ s. record { sent = letterOf p (goneOut (put (ownerIn owners (p .from)) (ownerIn owners (p .to)) s)); put = letterOf p (goneOut (put (ownerIn owners (p .from)) (ownerIn owners (p .to)) s)); out = None })
       h
       n
-      (λ less st.
-       let s = getD (b .gates) g noGate in
-       let o = goneOut (put (ownerIn owners (p .from)) (ownerIn owners (p .to)) s) in
-       (doing g (Sends (innerOf p)) s,
+      (λ less here st.
+      let s = getD (b .gates) g noGate in (
+        doing g (Sends (innerOf p)) s,
         does (ownerIn owners) g (Sends (innerOf p)) s,
         own-one g (Puts g (innerOf p)) refl,
         sends-so k life most fits (ownerIn owners) es g (innerOf p) s st,
-        putted p o (putAfter (ownerIn owners (p .from)) (ownerIn owners (p .to)) s),
-        inl refl))
-  went (Bring g i t) b es rest h n = brings-in b es rest g i t (b .net) (λ l j. j) h n
+        putted p (goneOut (put (ownerIn owners (p .from)) (ownerIn owners (p .to)) s)) (putAfter (ownerIn owners (p .from)) (ownerIn owners (p .to)) s),
+        inl refl,
+      ))
+  went (Bring g i t) b es rest h n = there (Bring g i t) b es rest h n (brought b es rest g i t h n)
 
   all-went : (events : List Event) (b : Books) (es : List Ev) → Reached k life most (ownerIn owners) b es → AllNew (tagsOf events) (world r es) →
       (later : List Ev) × Reached k life most (ownerIn owners) (plays owners events b) (later ++ es)

@@ -19,14 +19,17 @@ use Rattle.gates.specs.Promise.{Whole, GreetsBelow, lied, mirror, noteOf, forOf
 use Rattle.gates.specs.Code.{AllNew}
 use Rattle.gateway.specs.declared.state.Gateway.{Gateway}
 use Rattle.gateway.specs.declared.state.Word.{Word}
+use Rattle.gateway.specs.declared.state.Word.the-variants.{Hello}
 use Rattle.gateway.specs.declared.state.Taken.{Taken}
 use Rattle.gateway.specs.declared.state.Taken.the-variants.{Answer, Sure, Out, Alive}
-use Rattle.gateway.specs.Steps.{took, tookAfter, put, putAfter, greet, greetAfter, ticked, restarted}
+use Rattle.gateway.specs.Steps.{fresh, took, tookAfter, put, putAfter, greet, greetAfter, ticked, restarted}
 use Rattle.refinement.specs.declared.state.Parcel.{Parcel}
 use Rattle.refinement.specs.declared.state.Letter.{Letter}
 use Rattle.refinement.specs.declared.state.Event.{Event}
 use Rattle.refinement.specs.declared.state.Event.the-variants.{Tick, Restart, Greet, Put, Bring}
 use Rattle.refinement.specs.declared.state.Outcome.{Outcome}
+use Rattle.refinement.specs.declared.state.Sea.{Sea}
+use Rattle.std.specs.Of.Vec.{vec-items}
 use Rattle.refinement.specs.Relation.{rulesOf, Stands}
 use Rattle.refinement.specs.Calls.{asCode, asWord, goneOut, putAs}
 
@@ -80,35 +83,66 @@ abbrev pub entered : (g : ℕ) → Gateway → Outcome → Books → Books
 entered g s o b =
     record { gates = set (b .gates) g s; net = b .net ++ listOf (o .sent); put = b .put ++ listOf (o .put); out = b .out ++ listOf (o .out) }
 
--- a gate that is there does something
-abbrev pub ifThere : (g : ℕ) → (Gateway → Gateway) → (Gateway → Outcome) → Books → Books
-ifThere g after outcome b =
-    cond (ltb g (length (b .gates))) (entered g (after (getD (b .gates) g noGate)) (outcome (getD (b .gates) g noGate)) b) b
+-- what is read past the last letter
+abbrev pub noLetter : Letter
+noLetter = record { word = Hello 0 0 0 0; parcel = nobody }
 
--- the letter at a place of the net is brought, if there is one
-unfoldable pub bringsAt : List ℕ → (g i tag : ℕ) → List Letter → Books → Books
-bringsAt owners g i t [] b = b
-bringsAt owners g Prim.Native.Nat.zero t (l ∷ ls) b =
-    ifThere g (tookAfter (asCode (ownerIn owners) (sealedOf l)) t) (λ s. broughtOut l (took (asCode (ownerIn owners) (sealedOf l)) t s)) b
-bringsAt owners g (Prim.Native.Nat.suc i) t (l ∷ ls) b = bringsAt owners g i t ls b
+-- The gate at which an event happens.
+abbrev pub gateOf : Event → ℕ
+gateOf (Tick g) = g
+gateOf (Restart g) = g
+gateOf (Greet g e t) = g
+gateOf (Put g p) = g
+gateOf (Bring g i t) = g
 
--- WHAT AN EVENT DOES to gates and net, by the definitions that the gates' contracts cite.
+-- The letter that an event brings.
+abbrev pub letterIn : Event → List Letter → Letter
+letterIn (Tick g) ls = noLetter
+letterIn (Restart g) ls = noLetter
+letterIn (Greet g e t) ls = noLetter
+letterIn (Put g p) ls = noLetter
+letterIn (Bring g i t) ls = getD ls i noLetter
+
+-- The event can happen: the letter that it brings is there.
+abbrev pub isThere : Event → List Letter → Bool
+isThere (Tick g) ls = true
+isThere (Restart g) ls = true
+isThere (Greet g e t) ls = true
+isThere (Put g p) ls = true
+isThere (Bring g i t) ls = ltb i (length ls)
+
+-- WHAT AN EVENT DOES to its gate, by the definitions that the gate's contracts cite.
+abbrev pub afterOf : List ℕ → Event → Letter → Gateway → Gateway
+afterOf owners (Tick g) l s = ticked s
+afterOf owners (Restart g) l s = restarted s
+afterOf owners (Greet g e t) l s = greetAfter e t s
+afterOf owners (Put g p) l s = putAfter (ownerIn owners (p .from)) (ownerIn owners (p .to)) s
+afterOf owners (Bring g i t) l s = tookAfter (asCode (ownerIn owners) (sealedOf l)) t s
+
+-- WHAT IT ADDS.
+abbrev pub outcomeOf : List ℕ → Event → Letter → Gateway → Outcome
+outcomeOf owners (Tick g) l s = silent
+outcomeOf owners (Restart g) l s = silent
+outcomeOf owners (Greet g e t) l s = record { sent = letterOf nobody (greet e t s); put = None; out = None }
+outcomeOf owners (Put g p) l s =
+    record {
+      sent = letterOf p (goneOut (put (ownerIn owners (p .from)) (ownerIn owners (p .to)) s));
+      put = letterOf p (goneOut (put (ownerIn owners (p .from)) (ownerIn owners (p .to)) s));
+      out = None;
+    }
+outcomeOf owners (Bring g i t) l s = broughtOut l (took (asCode (ownerIn owners) (sealedOf l)) t s)
+
+-- The books after an event; where its gate or its letter is not there, nothing happens.
 abbrev pub happens : List ℕ → Event → Books → Books
-happens owners (Tick g) b = ifThere g ticked (λ s. silent) b
-happens owners (Restart g) b = ifThere g restarted (λ s. silent) b
-happens owners (Greet g e t) b = ifThere g (greetAfter e t) (λ s. record { sent = letterOf nobody (greet e t s); put = None; out = None }) b
-happens owners (Put g p) b =
-    ifThere
-    g
-    (putAfter (ownerIn owners (p .from)) (ownerIn owners (p .to)))
-    (λ s.
-     record {
-       sent = letterOf p (goneOut (put (ownerIn owners (p .from)) (ownerIn owners (p .to)) s));
-       put = letterOf p (goneOut (put (ownerIn owners (p .from)) (ownerIn owners (p .to)) s));
-       out = None;
-     })
+happens owners e b =
+    cond
+    (ltb (gateOf e) (length (b .gates)) && isThere e (b .net))
+    (entered (gateOf e) (afterOf owners e (letterIn e (b .net)) (getD (b .gates) (gateOf e) noGate)) (outcomeOf owners e (letterIn e (b .net)) (getD (b .gates) (gateOf e) noGate)) b)
     b
-happens owners (Bring g i t) b = bringsAt owners g i t (b .net) b
+
+-- the lists in a sea's memory
+abbrev pub booksOf : Sea → Books
+booksOf s = record { gates = vec-items (s .gates); net = vec-items (s .net); put = vec-items (s .put); out = vec-items (s .out) }
 
 -- The books after a list of events, the earliest first.
 unfoldable pub plays : List ℕ → List Event → Books → Books
@@ -166,3 +200,12 @@ abbrev pub Plays : (owners : List ℕ) → List Event → Books → Books → Ty
 Plays owners events b after =
     (k life most : ℕ) (es : List Ev) → k ≤ 32 → most < 2 ^ 32 → Reached k life most (ownerIn owners) b es → AllNew (tagsOf events) (world (rulesOf life most (ownerIn owners)) es) →
     (later : List Ev) × Reached k life most (ownerIn owners) after (later ++ es) × Whole (rulesOf life most (ownerIn owners)) (later ++ es) × Kept (ownerIn owners) after
+
+-- the first n of k gates, just made
+unfoldable pub newGates : (k life most n : ℕ) → List Gateway
+newGates k life most Prim.Native.Nat.zero = []
+newGates k life most (Prim.Native.Nat.suc n) = newGates k life most n ++ (fresh n k life most ∷ [])
+
+-- A sea that was just made is at the beginning of a run, whoever owns which address.
+abbrev pub Begun : (k life most : ℕ) → Books → Type 0
+Begun k life most b = (owner : ℕ → ℕ) → Reached k life most owner b []

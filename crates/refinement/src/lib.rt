@@ -1,6 +1,8 @@
 // That a gate's code does what the abstract protocol says. The public calls of a gate again, each with what it means in every run whose gate its memory stands
 // for; and many gates with a net of words. Assumes that drawn tags are new, where a contract says so.
+mod acts;
 mod calls;
+mod sea;
 mod state;
 
 pub use calls::greet;
@@ -13,3 +15,4 @@ pub use state::Event;
 pub use state::Letter;
 pub use state::Outcome;
 pub use state::Parcel;
+pub use state::Sea;

@@ -39,3 +39,12 @@ pub struct Outcome {
     pub put: Option<Letter>,
     pub out: Option<Letter>,
 }
+
+/// Gates, by their numbers, and a net that keeps every word; and the books of what was put in and came out. Each list has the earliest first.
+#[derive(Drop)]
+pub struct Sea {
+    pub(crate) gates: Vec<Gateway>,
+    pub(crate) net: Vec<Letter>,
+    pub(crate) put: Vec<Letter>,
+    pub(crate) out: Vec<Letter>,
+}
