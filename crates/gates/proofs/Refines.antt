@@ -11,7 +11,7 @@ use Rattle.gates.specs.Talk.{Inner, Rules, Talk, isIn, maySend}
 use Rattle.gates.specs.World.{Word, Hello, Reply, Packet, Empty, Gate, Note, World, Ev, Tick, Greets, Puts, Lies, Brings, Restarts, Drops, Stays, Found, NoTalk, This}
 use Rattle.gates.specs.World.{changed, isNew, forSending, byMine, takes, taken, bringsNth, sends, stays, step, world}
 use Rattle.gates.specs.Promise.{lied, GreetsBelow}
-use Rattle.gates.specs.Code.{Did, OfGate, AllOfGate, AllNew, Follows, Code, Field, Act, Asks, Brought, did, bringsTo, play, NewIn, Fair, Plays, CodeKeeps}
+use Rattle.gates.specs.Code.{Did, OfGate, AllOfGate, AllNew, Follows, Shape, Code, Field, Act, Asks, Brought, did, bringsTo, play, NewIn, Fair, Plays, Keeps}
 use Rattle.gates.proofs.Memories.{changed-both}
 use Rattle.gates.proofs.Can.{changed-there}
 
@@ -108,8 +108,8 @@ run-below k a (Restarts b ∷ vs) es l o g = run-below k a vs es l (o .1) g
 run-below k a (Drops b m ∷ vs) es l o g = run-below k a vs es l (o .1) g
 run-below k a (Stays b m ∷ vs) es l o g = run-below k a vs es l (o .1) g
 
-module _ (r : Rules) (c : Code r) where
-  all-new : (ts drawn : List ℕ) (w : World) → w .drawn ≡ drawn → NewIn r c ts drawn → AllNew ts w
+module _ (r : Rules) {S C : Type 0} (c : Shape S C) (Stands : (a : ℕ) → S → ℕ → Gate → Type 0) (laws : Code r c Stands) where
+  all-new : (ts drawn : List ℕ) (w : World) → w .drawn ≡ drawn → NewIn c ts drawn → AllNew ts w
   unfolding NewIn AllNew
   all-new [] drawn w s n = tt
   all-new (t ∷ ts) drawn w s n = (
@@ -123,24 +123,24 @@ module _ (r : Rules) (c : Code r) where
   )
 
   -- one gate did what its events did: the field goes on standing for the world
-  did-plays : (f : Field r c) (es vs : List Ev) (a : ℕ) (d : Did (c .State)) → a < c .gates → Plays r c f es → AllOfGate (c .gates) a vs → Follows (c .Stands a) a (world r es) (world r (vs ++ es)) d → Plays r c (did r c a d f) (vs ++ es)
+  did-plays : (f : Field c) (es vs : List Ev) (a : ℕ) (d : Did S) → a < c .gates → Plays c r Stands f es → AllOfGate (c .gates) a vs → Follows (Stands a) a (world r es) (world r (vs ++ es)) d → Plays c r Stands (did c a d f) (vs ++ es)
   did-plays f es vs a d there p own fl =
       record {
         stands =
             λ j less.
             changed-both
-            (λ s. c .Stands j s (world r (vs ++ es) .now j) (world r (vs ++ es) .gates j))
+            (λ s. Stands j s (world r (vs ++ es) .now j) (world r (vs ++ es) .gates j))
             a
             (d .after)
             (f .states)
             j
-            (λ e. subst (λ k. c .Stands k (d .after) (world r (vs ++ es) .now k) (world r (vs ++ es) .gates k)) (sym e) (fl .stands))
+            (λ e. subst (λ k. Stands k (d .after) (world r (vs ++ es) .now k) (world r (vs ++ es) .gates k)) (sym e) (fl .stands))
             (λ ne.
             let u = run-there r j (c .gates) a vs es own ne in
             subst
-            (λ g. c .Stands j (f .states j) (world r (vs ++ es) .now j) g)
+            (λ g. Stands j (f .states j) (world r (vs ++ es) .now j) g)
             (sym (u .gate-so))
-            (subst (λ n. c .Stands j (f .states j) n (world r es .gates j)) (sym (u .now-so)) (p .stands j less)));
+            (subst (λ n. Stands j (f .states j) n (world r es .gates j)) (sym (u .now-so)) (p .stands j less)));
         net-so = fl .net-so ∙ ap (λ z. d .sent ++ z) (p .net-so);
         put-so = fl .put-so ∙ ap (λ z. d .put ++ z) (p .put-so);
         out-so = fl .out-so ∙ ap (λ z. d .out ++ z) (p .out-so);
@@ -150,45 +150,45 @@ module _ (r : Rules) (c : Code r) where
       }
 
   -- the word at a place is heard, or there is none
-  brought-cases : (a i : ℕ) (ts : List ℕ) (xs : List Word) (f : Field r c) →
-      ((x : Word) × At i x xs × (bringsTo r c a i ts xs f ≡ did r c a (c .hears a x ts (f .states a)) f)) ⊎ (bringsTo r c a i ts xs f ≡ f)
+  brought-cases : (a i : ℕ) (ts : List ℕ) (xs : List Word) (f : Field c) →
+      ((x : Word) × At i x xs × (bringsTo c a i ts xs f ≡ did c a (c .hears a x ts (f .states a)) f)) ⊎ (bringsTo c a i ts xs f ≡ f)
   unfolding bringsTo At
   brought-cases a i ts [] f = inr refl
   brought-cases a zero ts (x ∷ xs) f = inl (x, refl, refl)
   brought-cases a (suc i) ts (x ∷ xs) f = brought-cases a i ts xs f
 
-  plays : (acts : List (Act r c)) → Fair r c acts → (es : List Ev) × Plays r c (play r c acts) es
+  plays : (acts : List (Act c)) → Fair c acts → (es : List Ev) × Plays c r Stands (play c acts) es
   unfolding play Fair world lied GreetsBelow
   plays [] d =
-      ([], record { stands = c .first-stands; net-so = refl; put-so = refl; out-so = refl; drawn-so = refl; below = tt; honest = λ a. refl })
+      ([], record { stands = laws .first-stands; net-so = refl; put-so = refl; out-so = refl; drawn-so = refl; below = tt; honest = λ a. refl })
   plays (Asks a x ∷ acts) d =
       let h = plays acts (d .2) in
-      let s = play r c acts .states a in (
+      let s = play c acts .states a in (
         c .doing a x s ++ h .0,
         did-plays
-            (play r c acts)
+            (play c acts)
             (h .0)
             (c .doing a x s)
             a
             (c .does a x s)
             (d .0)
             (h .1)
-            (c .doing-own a x s)
-            (c .does-so (h .0) a x s (d .0) (h .1 .below) (h .1 .stands a (d .0)) (all-new (c .offers x) (play r c acts .drawn) (world r (h .0)) (h .1 .drawn-so) (d .1))),
+            (laws .doing-own a x s _ _ (h .1 .stands a (d .0)))
+            (laws .does-so (h .0) a x s (d .0) (h .1 .below) (h .1 .stands a (d .0)) (all-new (c .offers x) (play c acts .drawn) (world r (h .0)) (h .1 .drawn-so) (d .1))),
       )
-  plays (Brought a i ts ∷ acts) d = of (plays acts (d .2)) (brought-cases a i ts (play r c acts .net) (play r c acts))
+  plays (Brought a i ts ∷ acts) d = of (plays acts (d .2)) (brought-cases a i ts (play c acts .net) (play c acts))
     where
-      f : Field r c
-      f = play r c acts
+      f : Field c
+      f = play c acts
 
-      of : ((es : List Ev) × Plays r c f es) →
-          (((x : Word) × At i x (f .net) × (bringsTo r c a i ts (f .net) f ≡ did r c a (c .hears a x ts (f .states a)) f)) ⊎ (bringsTo r c a i ts (f .net) f ≡ f)) →
-          (es : List Ev) × Plays r c (bringsTo r c a i ts (f .net) f) es
+      of : ((es : List Ev) × Plays c r Stands f es) →
+          (((x : Word) × At i x (f .net) × (bringsTo c a i ts (f .net) f ≡ did c a (c .hears a x ts (f .states a)) f)) ⊎ (bringsTo c a i ts (f .net) f ≡ f)) →
+          (es : List Ev) × Plays c r Stands (bringsTo c a i ts (f .net) f) es
       of h (inl y) =
           let s = f .states a in (
             c .hearing a (y .0) ts s i ++ h .0,
             subst
-                (λ z. Plays r c z (c .hearing a (y .0) ts s i ++ h .0))
+                (λ z. Plays c r Stands z (c .hearing a (y .0) ts s i ++ h .0))
                 (sym (y .2))
                 (did-plays
                 f
@@ -198,8 +198,8 @@ module _ (r : Rules) (c : Code r) where
                 (c .hears a (y .0) ts s)
                 (d .0)
                 (h .1)
-                (c .hearing-own a (y .0) ts s i)
-                (c .hears-so
+                (laws .hearing-own a (y .0) ts s i _ _ (h .1 .stands a (d .0)))
+                (laws .hears-so
                 (h .0)
                 a
                 (y .0)
@@ -212,7 +212,7 @@ module _ (r : Rules) (c : Code r) where
                 (subst (λ z. At i (y .0) z) (sym (h .1 .net-so)) (y .1))
                 (all-new ts (f .drawn) (world r (h .0)) (h .1 .drawn-so) (d .1)))),
           )
-      of h (inr e) = (h .0, subst (λ z. Plays r c z (h .0)) (sym e) (h .1))
+      of h (inr e) = (h .0, subst (λ z. Plays c r Stands z (h .0)) (sym e) (h .1))
 
-pub code-keeps : CodeKeeps
-code-keeps r c acts d = plays r c acts d
+pub code-keeps : (r : Rules) {S C : Type 0} (c : Shape S C) (Stands : (a : ℕ) → S → ℕ → Gate → Type 0) → Code r c Stands → Keeps r c Stands
+code-keeps r c Stands laws acts d = plays r c Stands laws acts d

@@ -46,40 +46,39 @@ pub record Follows {S : Type 0} (Stands : S → ℕ → Gate → Type 0) (a : �
   pub out-so : v .out ≡ d .out ++ w .out
   pub drawn-so : v .drawn ≡ d .drew ++ w .drawn
 
--- A gate's code, the same for all gates: each call takes the gate's number. Its contracts say that it does what `does` and `hears` say.
-pub record Code (r : Rules) : Type 1 where
-  -- a gate's memory, and what its owner can ask of it
-  pub State : Type 0
-  pub Call : Type 0
-  -- how many gates there are
+-- A gate's code, the same for all gates: each call takes the gate's number. S: a gate's memory; C: what its owner can ask of it. The contracts of the code say that
+-- it does what `does` and `hears` say.
+pub record Shape (S C : Type 0) : Type 0 where
+  -- how many gates there are, and a gate's memory before anything happened
   pub gates : ℕ
+  pub first : ℕ → S
   -- the tags that a call may draw
-  pub offers : Call → List ℕ
+  pub offers : C → List ℕ
   -- what a call does, and what a word that is brought does, with the tags that may be drawn for it
-  pub does : (a : ℕ) → Call → State → Did State
-  pub hears : (a : ℕ) → Word → (tags : List ℕ) → State → Did State
-  -- for which clock and abstract gate a memory stands: a relation, since code forgets what can no longer matter
-  pub Stands : (a : ℕ) → State → ℕ → Gate → Type 0
-  pub first : ℕ → State
-  pub first-stands : (a : ℕ) → a < gates → Stands a (first a) 1 emptyGate
+  pub does : (a : ℕ) → C → S → Did S
+  pub hears : (a : ℕ) → Word → (tags : List ℕ) → S → Did S
   -- the events, latest first, that a call is, and that a word brought from this place of the net is
-  pub doing : (a : ℕ) → Call → State → List Ev
-  pub hearing : (a : ℕ) → Word → (tags : List ℕ) → State → (place : ℕ) → List Ev
-  pub doing-own : (a : ℕ) (c : Call) (s : State) → AllOfGate gates a (doing a c s)
-  pub hearing-own : (a : ℕ) (x : Word) (ts : List ℕ) (s : State) (i : ℕ) → AllOfGate gates a (hearing a x ts s i)
+  pub doing : (a : ℕ) → C → S → List Ev
+  pub hearing : (a : ℕ) → Word → (tags : List ℕ) → S → (place : ℕ) → List Ev
+
+-- What code must be. Stands: for which clock and abstract gate a memory stands; a relation, since code forgets what can no longer matter.
+pub record Code (r : Rules) {S C : Type 0} (c : Shape S C) (Stands : (a : ℕ) → S → ℕ → Gate → Type 0) : Type 0 where
+  pub first-stands : (a : ℕ) → a < c .gates → Stands a (c .first a) 1 emptyGate
+  pub doing-own : (a : ℕ) (x : C) (s : S) (now : ℕ) (g : Gate) → Stands a s now g → AllOfGate (c .gates) a (c .doing a x s)
+  pub hearing-own : (a : ℕ) (x : Word) (ts : List ℕ) (s : S) (i now : ℕ) (g : Gate) → Stands a s now g → AllOfGate (c .gates) a (c .hearing a x ts s i)
   -- a word that is brought is delivered: so what the promise says of deliveries, it says of this code
-  pub hearing-brings : (a : ℕ) (x : Word) (ts : List ℕ) (s : State) (i : ℕ) → (t : ℕ) × (earlier : List Ev) × (hearing a x ts s i ≡ Brings a i t ∷ earlier)
+  pub hearing-brings : (a : ℕ) (x : Word) (ts : List ℕ) (s : S) (i : ℕ) → (t : ℕ) × (earlier : List Ev) × (c .hearing a x ts s i ≡ Brings a i t ∷ earlier)
   -- in every run of gates that are there, and whose gate a the memory stands for, the call does what those events do
-  pub does-so : (es : List Ev) (a : ℕ) (c : Call) (s : State) → a < gates → GreetsBelow gates es → Stands a s (world r es .now a) (world r es .gates a) → AllNew (offers c) (world r es) →
-      Follows (Stands a) a (world r es) (world r (doing a c s ++ es)) (does a c s)
-  pub hears-so : (es : List Ev) (a : ℕ) (x : Word) (ts : List ℕ) (s : State) (i : ℕ) → a < gates → GreetsBelow gates es → Stands a s (world r es .now a) (world r es .gates a) → At i x (world r es .net) → AllNew ts (world r es) →
-      Follows (Stands a) a (world r es) (world r (hearing a x ts s i ++ es)) (hears a x ts s)
+  pub does-so : (es : List Ev) (a : ℕ) (x : C) (s : S) → a < c .gates → GreetsBelow (c .gates) es → Stands a s (world r es .now a) (world r es .gates a) → AllNew (c .offers x) (world r es) →
+      Follows (Stands a) a (world r es) (world r (c .doing a x s ++ es)) (c .does a x s)
+  pub hears-so : (es : List Ev) (a : ℕ) (x : Word) (ts : List ℕ) (s : S) (i : ℕ) → a < c .gates → GreetsBelow (c .gates) es → Stands a s (world r es .now a) (world r es .gates a) →
+      At i x (world r es .net) → AllNew ts (world r es) → Follows (Stands a) a (world r es) (world r (c .hearing a x ts s i ++ es)) (c .hears a x ts s)
 
 -- Any number of gates that run this code, and a net that keeps every word and brings any of them to anybody.
-module _ (r : Rules) (c : Code r) where
+module _ {S C : Type 0} (c : Shape S C) where
   -- gates' memories, all words ever sent, all that was put in and came out, and all tags drawn
   pub record Field : Type 0 where
-    pub states : ℕ → c .State
+    pub states : ℕ → S
     pub net : List Word
     pub put : List Note
     pub out : List Note
@@ -87,10 +86,10 @@ module _ (r : Rules) (c : Code r) where
 
   -- something is asked of a gate; or the word at a place of the net is brought to one, with tags to draw
   pub data Act : Type 0 where
-    Asks : (a : ℕ) → c .Call → Act
+    Asks : (a : ℕ) → C → Act
     Brought : (a place : ℕ) → List ℕ → Act
 
-  abbrev pub did : ℕ → Did (c .State) → Field → Field
+  abbrev pub did : ℕ → Did S → Field → Field
   did a d f =
       record {
         states = changed a (d .after) (f .states);
@@ -123,8 +122,8 @@ module _ (r : Rules) (c : Code r) where
   Fair (Brought a i ts ∷ acts) = (a < c .gates) × NewIn ts (play acts .drawn) × Fair acts
 
   -- the gates and the net are those of the world after these events, in which nobody lies
-  pub record Plays (f : Field) (es : List Ev) : Type 0 where
-    pub stands : (a : ℕ) → a < c .gates → c .Stands a (f .states a) (world r es .now a) (world r es .gates a)
+  pub record Plays (r : Rules) (Stands : (a : ℕ) → S → ℕ → Gate → Type 0) (f : Field) (es : List Ev) : Type 0 where
+    pub stands : (a : ℕ) → a < c .gates → Stands a (f .states a) (world r es .now a) (world r es .gates a)
     pub net-so : world r es .net ≡ f .net
     pub put-so : world r es .put ≡ f .put
     pub out-so : world r es .out ≡ f .out
@@ -134,5 +133,5 @@ module _ (r : Rules) (c : Code r) where
 
 -- Whatever gates with such code and a net do, while drawn tags are new, is a run of the abstract protocol in which nobody lies: so all that its promise says of
 -- what is there holds of them. That they can and will send is said of the code's own calls.
-abbrev pub CodeKeeps : Type 1
-CodeKeeps = (r : Rules) (c : Code r) (acts : List (Act r c)) → Fair r c acts → (es : List Ev) × Plays r c (play r c acts) es
+abbrev pub Keeps : (r : Rules) {S C : Type 0} (c : Shape S C) (Stands : (a : ℕ) → S → ℕ → Gate → Type 0) → Type 0
+Keeps r c Stands = (acts : List (Act c)) → Fair c acts → (es : List Ev) × Plays c r Stands (play c acts) es

@@ -6,3 +6,4 @@ pub mod Taking
 pub mod Followed
 pub mod Playing
 pub mod Begins
+pub mod Asks

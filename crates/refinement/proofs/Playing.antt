@@ -41,7 +41,7 @@ use Rattle.refinement.specs.declared.state.Event.{Event}
 use Rattle.refinement.specs.declared.state.Event.the-variants.{Tick, Restart, Greet, Put, Bring}
 use Rattle.refinement.specs.declared.state.Outcome.{Outcome}
 use Rattle.refinement.specs.Relation.{rulesOf, Stands}
-use Rattle.refinement.specs.Calls.{Ticks, Says, Sends, Falls, asCode, asWord, drawnOf, hears, hearing, does, doing, goneOut, sentAs, putAs, drawnAs, nothing, sentFor, outFor, drewFor, dropsOldest, dropsFor}
+use Rattle.refinement.specs.Calls.{Call, Ticks, Says, Sends, Falls, offers, asCode, asWord, drawnOf, hears, hearing, does, doing, goneOut, sentAs, putAs, drawnAs, nothing, sentFor, outFor, drewFor, dropsOldest, dropsFor}
 use Rattle.refinement.specs.Sea.{ownerIn, innerOf, nobody, sealedOf, Books, letterOf, silent, broughtOut, listOf, noGate, entered, noLetter, gateOf, letterIn, isThere, afterOf, outcomeOf, happens, plays, tagOf, tagsOf, backwards, wordsOf, putsOf, outsOf, Reached, Kept, Plays}
 use Rattle.refinement.proofs.Asked.{ticks-so, falls-so, says-so, sends-so}
 use Rattle.refinement.proofs.Taking.{owned-ok, talk-tests, hello-none}
@@ -453,3 +453,23 @@ pub all-plays : (owners : List ℕ) (events : List Event) (b : Books) → Plays 
 all-plays owners events b k life most es few fits h n =
     let z = all-went k life most few fits owners events b es h n in
     (z .0, z .1, main (rulesOf life most (ownerIn owners)) (z .0 ++ es), kept k life most few fits owners (plays owners events b) (z .0 ++ es) (z .1))
+
+-- what is asked of a gate, whatever it is
+pub does-so : (k life most : ℕ) → k ≤ 32 → (fits : most < 2 ^ 32) (owner : ℕ → ℕ) (es : List Ev) (a : ℕ) (c : Call) (s : Gateway) →
+    Stands k life most a s (world (rulesOf life most owner) es .now a) (world (rulesOf life most owner) es .gates a) → AllNew (offers c) (world (rulesOf life most owner) es) →
+    Follows (Stands k life most a) a (world (rulesOf life most owner) es) (world (rulesOf life most owner) (doing a c s ++ es)) (does owner a c s)
+does-so k life most few fits owner es a Ticks s st new = ticks-so k life most fits owner es a s st
+does-so k life most few fits owner es a (Says e t) s st new = says-so k life most fits owner es a e t s st new
+does-so k life most few fits owner es a (Sends x) s st new = sends-so k life most fits owner es a x s st
+does-so k life most few fits owner es a Falls s st new = falls-so k life most fits owner es a s st
+
+pub does-own : (k life most : ℕ) → k ≤ 32 → most < 2 ^ 32 → (owner : ℕ → ℕ) (a : ℕ) (c : Call) (s : Gateway) (now : ℕ) (g : worlds.Gate) → Stands k life most a s now g → AllOfGate k a (doing a c s)
+does-own k life most few fits owner a Ticks s now g st = own-cond k life most few fits [] a (ltb (s .now) (2 ^ 64 - 1)) (worlds.Tick a ∷ []) (λ e. own-one k life most few fits [] a (worlds.Tick a) refl)
+does-own k life most few fits owner a (Says e t) s now g st =
+    own-cond k life most few fits [] a (mayGreet e t s) (worlds.Greets a e t ∷ []) (λ m. own-one k life most few fits [] a (worlds.Greets a e t) (refl, greeted-below k life most few fits [] e t s (st .gates-so) m))
+does-own k life most few fits owner a (Sends x) s now g st = own-one k life most few fits [] a (Puts a x) refl
+does-own k life most few fits owner a Falls s now g st = own-one k life most few fits [] a (worlds.Restarts a) refl
+
+pub hears-own : (k life most : ℕ) → k ≤ 32 → most < 2 ^ 32 → (owner : ℕ → ℕ) (a : ℕ) (x : Sealed) (ts : List ℕ) (s : Gateway) (i : ℕ) → AllOfGate k a (hearing owner a x ts s i)
+hears-own k life most few fits owner a x ts s i =
+    own-more k life most few fits [] a (Brings a i (drawnOf ts)) (dropsFor a (peerAt (byOf x) s) (took (asCode owner x) (drawnOf ts) s)) refl (hearing-own k life most few fits [] a (peerAt (byOf x) s) (took (asCode owner x) (drawnOf ts) s))

@@ -2,3 +2,4 @@ pub mod Relation
 pub mod Calls
 pub mod Steps
 pub mod Sea
+pub mod Term

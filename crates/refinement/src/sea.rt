@@ -49,6 +49,27 @@ impl Sea {
         })
     }
 
+    /// All words that were made, the earliest first.
+    pub fn words(&self) -> &[Letter]
+        ensures { λ r. ⌜ now r ≡ vec-items (now (self .entry) .net) ⌝ }
+    {
+        self.net.as_slice()
+    }
+
+    /// All that was put in and went out, the earliest first, each in the word that it went out in.
+    pub fn put_in(&self) -> &[Letter]
+        ensures { λ r. ⌜ now r ≡ vec-items (now (self .entry) .put) ⌝ }
+    {
+        self.put.as_slice()
+    }
+
+    /// All that came out, the earliest first, each in the word that it came in.
+    pub fn came_out(&self) -> &[Letter]
+        ensures { λ r. ⌜ now r ≡ vec-items (now (self .entry) .out) ⌝ }
+    {
+        self.out.as_slice()
+    }
+
     /// Makes room for one letter more in each list. It changes nothing else.
     fn make_room(&mut self) -> Result<(), AllocError>
         ensures same { λ _. ⌜ booksOf (now (self .exit)) ≡ booksOf (now (self .entry)) ⌝ }
