@@ -1,7 +1,8 @@
 # demo: proves and builds the program `gate`, and runs it on a small example
 # test: proves and tests everything, from nothing
+# bench: times the seals beside OpenSSL and plain C
 
-.PHONY: demo test
+.PHONY: demo test bench
 
 demo:
 	rt check gate
@@ -12,3 +13,6 @@ demo:
 
 test:
 	.ci/run
+
+bench:
+	$(MAKE) -C host/bench bench

@@ -1,0 +1,4 @@
+mod Lists
+mod States
+mod Words
+mod Streams

@@ -1,0 +1,6 @@
+mod Bytes
+mod Keys
+mod Messages
+mod Padding
+mod Steps
+mod Sums
