@@ -4,6 +4,7 @@ use mathlib.Core.Bool.{Bool, true, false, cond, _&&_, _||_, not}
 use mathlib.Core.Logic.{_⊎_, inl, inr, ⊎-elim}
 use mathlib.Core.List.{List, [], _∷_, _++_, map, List·Memᴰ·not-nil}
 use Prim.Native.Nat.{ℕ, zero, suc, _+_, _-_, _^_, _%_, _<_, _≤_, min}
+use native.Mathlib.Nat.{le-refl}
 use native.Mathlib.Omega.{arith}
 use lib.Dec.{eqb, ltb, leb}
 use lib.ListN.{length, getD, set, take, replicate, length-set, length-map}
@@ -146,6 +147,7 @@ module _ (k life most : ℕ) (fits : most < 2 ^ 32) (owner : ℕ → ℕ) where
                   most-so = st .most-so;
                   now-so = omega arith;
                   clock = omega arith;
+                  fell-so = let q = st .fell-so in omega arith;
                   table = st .table;
                   peers-so = λ e pe. later-peer (w .now a) (changed a (suc (w .now a)) (w .now) a) (w .gates a) e (peerAt e s) (omega arith) (st .peers-so e pe);
                   known = st .known;
@@ -168,6 +170,7 @@ module _ (k life most : ℕ) (fits : most < 2 ^ 32) (owner : ℕ → ℕ) where
                   most-so = st .most-so;
                   now-so = omega arith;
                   clock = omega arith;
+                  fell-so = let q = st .fell-so in omega arith;
                   table = st .table;
                   peers-so = st .peers-so;
                   known = st .known;
@@ -191,6 +194,7 @@ module _ (k life most : ℕ) (fits : most < 2 ^ 32) (owner : ℕ → ℕ) where
               most-so = st .most-so;
               now-so = st .now-so;
               clock = st .clock;
+              fell-so = le-refl (s .now);
               table = length-map (s .peers) forgotten ∙ st .table;
               peers-so = λ e pe. subst (SamePeer (w .now a) (world r (Restarts a ∷ es) .gates a) e) (sym (getD-map forgotten (s .peers) e blank blank (bound e pe))) (subst (λ g. SamePeer (w .now a) g e (forgotten (peerAt e s))) (sym here) (peer e pe));
               known = λ t i. absurd (List·Memᴰ·not-nil (subst (λ (g : Gate). In t (g .talks)) here i));

@@ -102,6 +102,7 @@ start-stands k life most a =
       most-so = refl;
       now-so = refl;
       clock = omega arith;
+      fell-so = omega arith;
       table = refl;
       peers-so =
           λ e pe.

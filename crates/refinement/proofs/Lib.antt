@@ -7,3 +7,4 @@ pub mod Followed
 pub mod Playing
 pub mod Begins
 pub mod Asks
+pub mod Opening

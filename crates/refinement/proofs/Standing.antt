@@ -139,6 +139,7 @@ module _ (k life most a : ℕ) where
         most-so = st .most-so;
         now-so = st .now-so;
         clock = st .clock;
+        fell-so = st .fell-so;
         table = length-set (s .peers) e p ∙ st .table;
         peers-so = λ j pj. ⊎-elim (λ (q : j ≡ e). subst (SamePeer now f j) (sym (at-it j q)) (subst (λ z. SamePeer now f z p) (sym q) here)) (λ ne. subst (SamePeer now f j) (sym (at-other j ne)) (there j ne pj)) (cases-eq j e);
         known = known′;

@@ -69,6 +69,7 @@ pub record Stands (k life most a : ℕ) (s : Gateway) (now : ℕ) (g : Gate) : T
   pub most-so : s .most ≡ most
   pub now-so : s .now ≡ now
   pub clock : s .now < 2 ^ 64
+  pub fell-so : s .fell ≤ s .now
   pub table : length (s .peers) ≡ 32
   pub peers-so : (e : ℕ) → isPeer e s ≡ true → SamePeer now g e (peerAt e s)
   pub known : (t : Session) → In t (g .talks) → isPeer (t .with′) s ≡ true

@@ -19,7 +19,7 @@ use Rattle.gates.specs.Promise.{Whole, GreetsBelow, lied, mirror, noteOf, forOf
 use Rattle.gates.specs.Code.{AllNew}
 use Rattle.gateway.specs.declared.state.Gateway.{Gateway}
 use Rattle.gateway.specs.declared.state.Word.{Word}
-use Rattle.gateway.specs.declared.state.Word.the-variants.{Hello}
+use Rattle.gateway.specs.declared.state.Word.the-variants.{Hello, Packet}
 use Rattle.gateway.specs.declared.state.Taken.{Taken}
 use Rattle.gateway.specs.declared.state.Taken.the-variants.{Answer, Sure, Out, Alive}
 use Rattle.gateway.specs.Steps.{fresh, took, tookAfter, put, putAfter, greet, greetAfter, ticked, restarted}
@@ -209,3 +209,15 @@ newGates k life most (Prim.Native.Nat.suc n) = newGates k life most n ++ (fresh 
 -- A sea that was just made is at the beginning of a run, whoever owns which address.
 abbrev pub Begun : (k life most : ℕ) → Books → Type 0
 Begun k life most b = (owner : ℕ → ℕ) → Reached k life most owner b []
+
+-- Gate a, at a new tick, greets gate e under tag t; the hello is brought, and then its reply, for which e draws y; p is put in at a, and brought. n: how many words
+-- were made before.
+abbrev pub opening : (a e t y n : ℕ) → Parcel → List Event
+opening a e t y n p = Tick a ∷ Greet a e t ∷ Bring e n y ∷ Bring a (n + 1) 0 ∷ Put a p ∷ Bring e (n + 2) 0 ∷ []
+
+-- IT ALWAYS CAN: from books of any run, whatever the net did before, that lets p out at e, once; each word that is brought is one that was made on the way.
+abbrev pub CanOpen : Type 0
+CanOpen =
+    (owners : List ℕ) (k life most : ℕ) (es : List Ev) (b : Books) (a e t y : ℕ) (p : Parcel) → k ≤ 32 → 0 < most → most < 2 ^ 32 → Reached k life most (ownerIn owners) b es →
+    a < k → e < k → (a ≡ e → ⊥) → ownerIn owners (p .from) ≡ a → ownerIn owners (p .to) ≡ e → getD (b .gates) a noGate .now < 2 ^ 64 - 1 → 0 < t → 0 < y →
+    plays owners (opening a e t y (length (b .net)) p) b .out ≡ b .out ++ (record { word = Packet a e t y 1 a e; parcel = p } ∷ [])

@@ -12,6 +12,7 @@ pub use calls::restart;
 pub use calls::start;
 pub use calls::take;
 pub use calls::tick;
+pub use sea::it_always_can;
 pub use state::Event;
 pub use state::Letter;
 pub use state::Outcome;

@@ -8,7 +8,7 @@ ghost use lib.ListN.{take as front};
 ghost use Rattle.std.specs.Of.Vec.{vec-items, vec-len, vec-cap};
 ghost use Rattle.std.specs.Results.{isOk};
 ghost use Rattle.std.specs.Vec.{made};
-ghost use Rattle.refinement.specs.Sea.{listOf, isThere, letterIn, entered, happens, plays, Plays, Books, booksOf, Begun};
+ghost use Rattle.refinement.specs.Sea.{listOf, isThere, letterIn, entered, happens, plays, Plays, Books, booksOf, Begun, CanOpen};
 ghost use Rattle.std.specs.declared.option.Option.the-variants.{Some, None};
 use crate::acts::act;
 use crate::calls::start;
@@ -164,3 +164,8 @@ impl Sea {
         played
     }
 }
+
+// From every state that gates and a net reach, a hello of a new tick and its reply give two gates a talk, and what is then put in comes out, once.
+pub fn it_always_can()
+    ensures { λ _. ⌜ CanOpen ⌝ }
+{}
