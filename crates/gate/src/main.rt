@@ -3,6 +3,8 @@ mod state;
 
 use lines::LineFaultDisplay;
 use protocol::Refusal;
+use settings::FaultDisplay;
+use settings::Settings;
 use state::Answer;
 use state::Gate;
 use state::Missing;
@@ -40,8 +42,8 @@ fn settings_path(rt: &LibcRuntime) -> Result<String, AnyError> {
     Ok(path)
 }
 
-// Reads the settings, whose bytes aren't interpreted yet.
-fn check_settings(rt: &LibcRuntime, path: &str) -> Result<(), AnyError> {
+// The settings in a file; those that are refused are named with what is wrong.
+fn read_settings(rt: &LibcRuntime, path: &str) -> Result<Settings, AnyError> {
     let bytes = match fs::read(rt, path) {
         Ok(bytes) => bytes,
         Err(why) => {
@@ -49,23 +51,24 @@ fn check_settings(rt: &LibcRuntime, path: &str) -> Result<(), AnyError> {
             return Err("the settings can't be read".into());
         }
     };
-    if bytes.is_empty() {
-        let refusal = Refusal::BadSettings;
-        let number = refusal.number();
-        let sentence = refusal.sentence();
-        eprintln!(rt, "gate: {path}: the file is empty")?;
-        return Err(format!(
-            rt.alloc(),
-            "the settings are refused by {number}: {sentence}"
-        )?.into());
+    match settings::read(bytes.as_slice()) {
+        Ok(settings) => Ok(settings),
+        Err(fault) => {
+            eprintln!(rt, "gate: {path}: {fault}")?;
+            let refusal = fault.refusal();
+            let number = refusal.number();
+            let sentence = refusal.sentence();
+            Err(format!(
+                rt.alloc(),
+                "the settings are refused by {number}: {sentence}"
+            )?.into())
+        }
     }
-    eprintln!(rt, "gate: {path}: settings are not interpreted yet")?;
-    Ok(())
 }
 
 fn run(rt: &LibcRuntime) -> Result<(), AnyError> {
     let path = settings_path(rt)?;
-    check_settings(rt, path.as_str())?;
+    let _settings = read_settings(rt, path.as_str())?;
     let mut gate = Gate::new(rt.alloc());
     let faults = read_events(rt, &mut gate)?;
     print_counts(rt, &gate)?;

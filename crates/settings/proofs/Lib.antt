@@ -1,0 +1,10 @@
+mod Prefixes
+mod Below
+mod Numbers
+mod Steps
+mod Whole
+mod Owning
+mod Written
+mod Agreeing
+mod Growing
+mod Taken

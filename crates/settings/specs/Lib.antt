@@ -1,0 +1,10 @@
+pub mod Layout
+pub mod Faults
+pub mod Ranges
+pub mod Owners
+pub mod Fields
+pub mod Plans
+pub mod Reading
+pub mod Writing
+pub mod Sound
+pub mod Making
