@@ -1,6 +1,6 @@
 -- The worked cases A to G, as one table: two gates are played from row to row. Assumes nothing.
 use mathlib.Core.Path.{_≡_}
-use mathlib.Core.Bool.{Bool, true, false}
+use mathlib.Core.Bool.{true, false}
 use mathlib.Core.List.{List, [], _∷_, _++_, map}
 use Prim.Native.Nat.{ℕ}
 use Rattle.std.specs.declared.option.Option.{Option}
@@ -23,6 +23,7 @@ use Rattle.cases.specs.declared.rows.Tags.{Tags}
 use Rattle.cases.specs.declared.rows.Row.{Row}
 use Rattle.cases.specs.Play.{Known, after, happened, talksAt}
 
+-- three ticks pass
 abbrev pub threeTicks : Gateway → Gateway
 threeTicks s = ticked (ticked (ticked s))
 
@@ -125,7 +126,7 @@ caseD =
     line One (brought (firstPacket 953)) Out (sureTags 9 5) (surely 9 5 3000 ∷ []) ∷
     []
 
--- E: gate 1 restarts and has no talk; the tick of the last hello it has; the next hello makes a new talk.
+-- E: gate 1 restarts and has no talk, but has kept the tick of the last hello; the next hello makes a new talk.
 abbrev pub caseE : List Line
 caseE =
     line One Restart Nothing None [] ∷

@@ -14,7 +14,7 @@ use Rattle.gateway.specs.declared.state.Word.{Word}
 use Rattle.gateway.specs.declared.state.Word.the-variants.{Hello, Reply, Packet, Empty}
 use Rattle.gateway.specs.declared.state.Taken.{Taken}
 use Rattle.gateway.specs.declared.state.Taken.the-variants.{Answer, Sure as Surely, Out as Outside, Alive as Living}
-use Rattle.gateway.specs.Steps.{fresh, took, tookAfter, put, putAfter, greet, greetAfter, ticked, restarted, peerAt}
+use Rattle.gateway.specs.Steps.{took, tookAfter, put, putAfter, greet, greetAfter, ticked, restarted, peerAt}
 use Rattle.cases.specs.declared.rows.Pair.{Pair}
 use Rattle.cases.specs.declared.rows.Side.{Side}
 use Rattle.cases.specs.declared.rows.Side.the-variants.{Zero, One}

@@ -1,6 +1,6 @@
 // Playing rows on the code of two gates, through its public calls alone. Assumes nothing.
 ghost use mathlib.Core.Path.{_≡_};
-ghost use Rattle.cases.specs.Play.{saysWord, saysTaken, saysTook, saysPut, says, leaves, tagsOf, sureOf, after, happened};
+ghost use Rattle.cases.specs.Play.{saysWord, saysTook, saysPut, says, leaves, tagsOf, sureOf, after, happened};
 ghost use Rattle.cases.specs.Cases.{atSeven, threeTicks, start};
 use crate::rows::Event;
 use crate::rows::Pair;

@@ -195,7 +195,7 @@ pub fn case_d() -> [Row; 3]
     ]
 }
 
-/// Case E: gate 1 restarts and has no talk; the tick of the last hello it has; the next hello makes a new talk.
+/// Case E: gate 1 restarts and has no talk, but has kept the tick of the last hello; the next hello makes a new talk.
 pub fn case_e() -> [Row; 10]
     ensures { λ r. ⌜ r ≡ rowsOf caseE ⌝ }
 {

@@ -70,6 +70,6 @@ answered t p = with-waits (cleared (hasTag t) (p .waits)) p
 abbrev pub asked : (tag at : ℕ) → Peer → Peer
 asked t n p = with-waits (set (p .waits) (n % 6) (Some (record { tag = t; at = n }))) p
 
--- A hello was said in this tick.
+-- A hello of this tick waits for its reply.
 abbrev pub isGreeted : (now : ℕ) → Peer → Bool
 isGreeted now p = isSome (firstThat (λ x. eqb (x .at) now) (p .waits))

@@ -166,7 +166,7 @@ put source goal s = answer (putFault source goal s) (packetIn (s .own) source go
 abbrev pub putAfter : (source goal : ℕ) → Gateway → Gateway
 putAfter source goal s = leaves (putFault source goal s) s (sentAfter goal s (sending goal s))
 
--- A hello to gate e can be made: it is another gate, there is a tag, the tick is above that of the last restart, and none was made to it in this tick.
+-- A hello to gate e can be made: it is another gate, there is a tag, the tick is above that of the last restart, and none of this tick waits for its reply.
 abbrev pub mayGreet : (e tag : ℕ) → Gateway → Bool
 mayGreet e tag s = isPeer e s && (not (eqb tag 0) && (ltb (s .fell) (s .now) && not (isGreeted (s .now) (peerAt e s))))
 

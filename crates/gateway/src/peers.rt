@@ -120,7 +120,7 @@ impl Peer {
         false
     }
 
-    /// Whether a hello was said in this tick.
+    /// Whether a hello of this tick waits for its reply.
     pub(crate) fn is_greeted(self, now: u64) -> bool
         ensures { λ r. ⌜ r ≡ isGreeted now self ⌝ }
     {

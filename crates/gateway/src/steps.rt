@@ -262,7 +262,7 @@ impl Gateway {
     }
 
     /// Makes a hello to a gate under a drawn tag; none where that gate is not another one, the tag is 0, the tick is not above that of the last restart, or
-    /// a hello to it was made in this tick, and then nothing is changed.
+    /// a hello to it of this tick waits for its reply, and then nothing is changed.
     pub fn greet(&mut self, gate: u8, tag: u64) -> Option<Word>
         ensures answer { λ r. ⌜ r ≡ greet gate tag (now (self .entry)) ⌝ }
         ensures after { λ _. ⌜ now (self .exit) ≡ greetAfter gate tag (now (self .entry)) ⌝ }

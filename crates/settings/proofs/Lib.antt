@@ -8,3 +8,4 @@ mod Written
 mod Agreeing
 mod Growing
 mod Taken
+mod Ruling

@@ -8,3 +8,4 @@ pub mod Reading
 pub mod Writing
 pub mod Sound
 pub mod Making
+pub mod Runs

@@ -31,6 +31,7 @@ pub use plans::Plan;
 pub use plans::PlanDebug;
 pub use plans::Settings;
 pub use plans::SettingsDebug;
+pub use plans::runs_stated;
 pub use ranges::NOBODY;
 pub use ranges::Range;
 pub use ranges::RangeDebug;

@@ -5,6 +5,7 @@ ghost use Prim.Native.Nat.{_<_};
 ghost use lib.ListN.{getD};
 ghost use Rattle.std.specs.Vec.{made};
 ghost use Rattle.settings.specs.Sound.{SoundPlan};
+ghost use Rattle.settings.specs.Runs.{RunsAreOwned};
 ghost use Rattle.settings.specs.Ranges.{rangeAt, asGate};
 ghost use Rattle.settings.specs.Plans.{emptyPlan, planWith, emptySettings, settingsWith, rangeCause, ownerIn, newPlan, addTo, blankKey, keyAt, outsideOf};
 use crate::faults::Cause;
@@ -227,3 +228,10 @@ impl Key {
         &self.bytes
     }
 }
+
+/// States that the owner by a plan is the abstract protocol's: in every run by its rules, what came out
+/// came from an address that the gate by whom it says it is owns, for an address that the gate where it
+/// came out owns. It does nothing.
+pub fn runs_stated()
+    ensures { λ _. ⌜ RunsAreOwned ⌝ }
+{}
