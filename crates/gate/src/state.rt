@@ -13,7 +13,7 @@ use protocol::{Counts, Refusal, kind_of};
 use std::alloc::{AllocError, Global};
 
 /// What this form of the gate can't do yet.
-#[derive(Clone, Copy)]
+#[derive(Clone, Copy, Debug, PartialEq, Eq)]
 pub enum Missing {
     /// Opening a word of a known kind.
     Words,
@@ -22,7 +22,7 @@ pub enum Missing {
 }
 
 /// What became of an event.
-#[derive(Clone, Copy)]
+#[derive(Clone, Copy, Debug, PartialEq, Eq)]
 pub enum Answer {
     /// It was done.
     Done,

@@ -96,8 +96,8 @@ pub record Kept (r : Rules) (w : World) : Type 0 where
   pub draws : Distinct SameDraw w.net
   pub answers : Distinct SameAnswer w.net
   pub uses : Distinct SameUse w.net
-  pub puts-sent : Each (λ p. In (packet_of p) w.net) w.put
-  pub puts-apart : Distinct SameNote w.put
+  pub puts_sent : Each (λ p. In (packet_of p) w.net) w.put
+  pub puts_apart : Distinct SameNote w.put
   pub outs_owned : Each (Owned r w.net) w.out
   pub outs_apart : Distinct SameNote w.out
   pub hellos : (e a : ℕ) → (w.gates e).last_hello a ≤ w.now a

@@ -81,9 +81,9 @@ waiting-out net out os a y other h =
     }
 
 -- one more word, which uses no tag that the gate holds
-pub memory-net : (net : List Word) (out : List Note) (a : ℕ) (g : Gate) (x : Word) → ((t : Talk) (n : ℕ) → In t g.talks → Uses t.mine n x → ⊥) →
+pub memory_net : (net : List Word) (out : List Note) (a : ℕ) (g : Gate) (x : Word) → ((t : Talk) (n : ℕ) → In t g.talks → Uses t.mine n x → ⊥) →
     ((y : Wait) (n : ℕ) → In y g.waits → Uses y.tag n x → ⊥) → Memory net out a g → Memory (x ∷ net) out a g
-memory-net net out a g x ft fw m =
+memory_net net out a g x ft fw m =
     record {
       apart = m.apart;
       unmet = m.unmet;
@@ -92,9 +92,9 @@ memory-net net out a g x ft fw m =
     }
 
 -- more came out, under no tag that the gate holds
-pub memory-out : (net : List Word) (out os : List Note) (a : ℕ) (g : Gate) → ((o : Note) (t : Talk) → In o os → In t g.talks → o.gate_tag ≡ t.mine → ⊥) →
+pub memory_out : (net : List Word) (out os : List Note) (a : ℕ) (g : Gate) → ((o : Note) (t : Talk) → In o os → In t g.talks → o.gate_tag ≡ t.mine → ⊥) →
     ((o : Note) (y : Wait) → In o os → In y g.waits → o.gate_tag ≡ y.tag → ⊥) → Memory net out a g → Memory net (os ++ out) a g
-memory-out net out os a g ft fw m =
+memory_out net out os a g ft fw m =
     record {
       apart = m.apart;
       unmet = m.unmet;
@@ -103,9 +103,9 @@ memory-out net out os a g ft fw m =
     }
 
 -- the gate forgets some of what it held
-pub memory-fewer : (net : List Word) (out : List Note) (a : ℕ) (g f : Gate) → Distinct SameTag f.talks → ((t : Talk) → In t f.talks → In t g.talks) →
+pub memory_fewer : (net : List Word) (out : List Note) (a : ℕ) (g f : Gate) → Distinct SameTag f.talks → ((t : Talk) → In t f.talks → In t g.talks) →
     ((y : Wait) → In y f.waits → In y g.waits) → Memory net out a g → Memory net out a f
-memory-fewer net out a g f d ts ws m =
+memory_fewer net out a g f d ts ws m =
     record {
       apart = d;
       unmet = λ t y i j. m.unmet t y (ts t i) (ws y j);
@@ -114,9 +114,9 @@ memory-fewer net out a g f d ts ws m =
     }
 
 -- the gate uses the next number of its talk t
-pub memory-sent : (net : List Word) (out : List Note) (a : ℕ) (g : Gate) (t : Talk) (x : Word) → In t g.talks → ((m n : ℕ) → Uses m n x → (m ≡ t.mine) × (n ≡ suc t.sent)) →
+pub memory_sent : (net : List Word) (out : List Note) (a : ℕ) (g : Gate) (t : Talk) (x : Word) → In t g.talks → ((m n : ℕ) → Uses m n x → (m ≡ t.mine) × (n ≡ suc t.sent)) →
     Memory net out a g → Memory (x ∷ net) out a (with_talks (change t.mine sent_one g.talks) g)
-memory-sent net out a g t x i next m =
+memory_sent net out a g t x i next m =
     record {
       apart = distinct_change t.mine sent_one (λ u. refl) g.talks m.apart;
       unmet = λ u y j k e. let v = change-from t.mine sent_one (λ z. refl) g.talks u j in m.unmet v.0 y v.1 k (v.2 ∙ e);
@@ -135,9 +135,9 @@ memory-sent net out a g t x i next m =
     }
 
 -- a number came in a talk of the gate's
-pub memory-came : (net : List Word) (out os : List Note) (a n : ℕ) (g : Gate) (t : Talk) → In t g.talks → ((o : Note) → In o os → (o.gate_tag ≡ t.mine) × (o.number ≡ n)) →
+pub memory_came : (net : List Word) (out os : List Note) (a n : ℕ) (g : Gate) (t : Talk) → In t g.talks → ((o : Note) → In o os → (o.gate_tag ≡ t.mine) × (o.number ≡ n)) →
     Memory net out a g → Memory net (os ++ out) a (with_talks (change t.mine (came n) g.talks) g)
-memory-came net out os a n g t i of m =
+memory_came net out os a n g t i of m =
     record {
       apart = distinct_change t.mine (came n) (λ u. refl) g.talks m.apart;
       unmet = λ u y j k e. let v = change-from t.mine (came n) (λ z. refl) g.talks u j in m.unmet v.0 y v.1 k (v.2 ∙ e);

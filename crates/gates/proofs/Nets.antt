@@ -50,9 +50,9 @@ words-sent P r a e x (This t) w i p h =
           h.each;
     }
 
-words-stay : (P : Word → Type 0) (r : Rules) (a : ℕ) (f : Found) (w : World) → ((e k h n : ℕ) → P (Empty a e k h n)) → Words P w → Words P (stays r a f w)
-words-stay P r a NoTalk w p h = h
-words-stay P r a (This t) w p h =
+words_stay : (P : Word → Type 0) (r : Rules) (a : ℕ) (f : Found) (w : World) → ((e k h n : ℕ) → P (Empty a e k h n)) → Words P w → Words P (stays r a f w)
+words_stay P r a NoTalk w p h = h
+words_stay P r a (This t) w p h =
     cond_both
     (may_send r (w.now a) t)
     _
@@ -79,7 +79,7 @@ words_step P r (Lies a e x) w p h = words-sent P r a e x _ w (for_sending_lem r 
 words_step P r (Brings e i t) w p h = words-brought P r e i t w.net w p h
 words_step P r (Restarts a) w p h = record { each = h.each }
 words_step P r (Drops a m) w p h = record { each = h.each }
-words_step P r (Stays a m) w p h = words-stay P r a (by_mine m (w.gates a).talks) w p h
+words_step P r (Stays a m) w p h = words_stay P r a (by_mine m (w.gates a).talks) w p h
 
 -- a hello is between gates below k
 abbrev pub HelloBelow : ℕ → Word → Type 0

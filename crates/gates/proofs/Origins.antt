@@ -65,8 +65,8 @@ module _ (r : Rules) (w : World) (v : Inv r w) where
   talks_face a e t u i j s =
       facing a t.with' t.mine t.theirs e u.with' u.mine (talk_origin a t i) (subst (λ z. Origin w.net e u.with' u.mine z) s (talk_origin e u j))
 
-  drew-nonzero : (a m : ℕ) → Drew w.net a m → 0 < m
-  drew-nonzero a m d = of d.0 (v.kept.words d.0 d.1) d.2
+  drew_nonzero : (a m : ℕ) → Drew w.net a m → 0 < m
+  drew_nonzero a m d = of d.0 (v.kept.words d.0 d.1) d.2
     where
       of : (x : Word) → Sound r w x → Draws m x → 0 < m
       of (Hello b e t n) s p = subst (λ z. 0 < z) p s.1
@@ -75,7 +75,7 @@ module _ (r : Rules) (w : World) (v : Inv r w) where
       of (Empty b e k h n) s p = absurd p
 
   both_nonzero : (a e m h : ℕ) → Origin w.net a e m h → (0 < m) × (0 < h)
-  both_nonzero a e m h o = (drew-nonzero a m (origin_drew w.net a e m h o), drew-nonzero e h (origin_other r w v.kept a e m h o))
+  both_nonzero a e m h o = (drew_nonzero a m (origin_drew w.net a e m h o), drew_nonzero e h (origin_other r w v.kept a e m h o))
 
   no_zero : (x : Word) → Sound r w x → NoZero x
   no_zero (Hello a e t n) s = s.1
@@ -145,9 +145,9 @@ apart r es =
           let fu = talks_face r w v a e t u it (at_in i u (w.gates e).talks p) s in
           let fy = talks_face r w v a f t y it (at_in k y (w.gates f).talks q) l in
           tags-apart r w v e f i k u y p q (fu.2 ∙ sym fy.2);
-      range = λ p i. let s = v.kept.words (packet_of p) (v.kept.puts-sent p i) in (s.0, s.1);
+      range = λ p i. let s = v.kept.words (packet_of p) (v.kept.puts_sent p i) in (s.0, s.1);
       numbers =
-          λ i k p q h l e n. distinct_place SameNote (λ x y s. (sym s.0, sym s.1)) w.put v.kept.puts-apart i k p q h l (e, n);
+          λ i k p q h l e n. distinct_place SameNote (λ x y s. (sym s.0, sym s.1)) w.put v.kept.puts_apart i k p q h l (e, n);
     }
 
 pub proper : AllProper

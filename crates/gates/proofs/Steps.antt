@@ -8,10 +8,10 @@ use Rattle.gates.specs.World.{Word, Hello, Reply, Packet, Empty, Wait, Gate, Not
 use Rattle.gates.specs.World.{changed, empty_gate, start, is_new, for_sending, by_mine, is_talk, comes_in, change, without_talk, waits_for, without_wait, with_talks, note, becomes, emits, hears, takes, taken, brings, brings_nth, sends, stays, step, world}
 use Rattle.gates.specs.Promise.{by_of, OfTalk}
 use Rattle.gates.proofs.Lists.{Each, each_none, each_cons, Distinct, distinct_none, distinct_cons, distinct_same}
-use Rattle.gates.proofs.Talks.{SameTag, Finds, for_sending_lem, by_mine_lem, comes_in_lem, is-talk, without_talk_lem, distinct_without, waits_for_lem, without_wait_lem}
+use Rattle.gates.proofs.Talks.{SameTag, Finds, for_sending_lem, by_mine_lem, comes_in_lem, is_talk_lem, without_talk_lem, distinct_without, waits_for_lem, without_wait_lem}
 use Rattle.gates.proofs.Invariant.{Draws, Answers, Uses, SameDraw, SameAnswer, SameUse, SameNote, Origin, answered, greeted, Drew, Sound, packet_of, packet_for, Owned, Had, Waiting, Memory, Kept, Inv, Grows}
 use Rattle.gates.proofs.Invariant.{origin_grows, sound_grows, one-draw, one_drawer, origin_drew, drew-drawn, origin_other, uses_origin}
-use Rattle.gates.proofs.Memories.{changed_both, had_net, waiting-net, memory-net, memory-out, memory-fewer, memory-sent, memory-came}
+use Rattle.gates.proofs.Memories.{changed_both, had_net, waiting-net, memory_net, memory_out, memory_fewer, memory_sent, memory_came}
 
 -- a tag that is new is not 0, and is not among the drawn ones
 new_parts : (t : ℕ) (w : World) → is_new t w ≡ true → (is_in t w.drawn ≡ false) × (0 < t)
@@ -60,8 +60,8 @@ module _ (r : Rules) (w : World) (v : Inv r w) where
       let p = v.kept.words (packet_for o) (v.kept.outs_owned o i).word in
       fresh-drew t o.gate e (subst (λ z. Drew w.net o.gate z) s (origin_other r w v.kept o.other o.gate o.other_tag o.gate_tag p.2))
 
-  talk-drew : (a : ℕ) (t : Talk) → In t (w.gates a).talks → Drew w.net a t.mine
-  talk-drew a t i = origin_drew w.net a t.with' t.mine t.theirs ((v.memory a).talks_had t i).origin
+  talk_drew : (a : ℕ) (t : Talk) → In t (w.gates a).talks → Drew w.net a t.mine
+  talk_drew a t i = origin_drew w.net a t.with' t.mine t.theirs ((v.memory a).talks_had t i).origin
 
   wait_drew : (a : ℕ) (x : Wait) → In x (w.gates a).waits → Drew w.net a x.tag
   wait_drew a x i = (_, ((v.memory a).waits_had x i).said, refl, refl)
@@ -80,8 +80,8 @@ module _ (r : Rules) (w : World) (v : Inv r w) where
               draws = v.kept.draws;
               answers = v.kept.answers;
               uses = v.kept.uses;
-              puts-sent = v.kept.puts-sent;
-              puts-apart = v.kept.puts-apart;
+              puts_sent = v.kept.puts_sent;
+              puts_apart = v.kept.puts_apart;
               outs_owned = v.kept.outs_owned;
               outs_apart = v.kept.outs_apart;
               hellos = λ e b. le_trans (v.kept.hellos e b) (later b);
@@ -126,8 +126,8 @@ module _ (r : Rules) (w : World) (v : Inv r w) where
                 draws = v.kept.draws;
                 answers = v.kept.answers;
                 uses = v.kept.uses;
-                puts-sent = v.kept.puts-sent;
-                puts-apart = v.kept.puts-apart;
+                puts_sent = v.kept.puts_sent;
+                puts_apart = v.kept.puts_apart;
                 outs_owned = v.kept.outs_owned;
                 outs_apart = v.kept.outs_apart;
                 hellos = λ j b. last_hello_lem (λ n. n ≤ w.now b) a b g w.gates j (λ e. subst (λ n. n ≤ w.now b) (sym (same b)) (v.kept.hellos a b)) (v.kept.hellos j b);
@@ -145,7 +145,7 @@ module _ (r : Rules) (w : World) (v : Inv r w) where
         }
 
   restarts_inv : (a : ℕ) → Inv r (step r (Restarts a) w)
-  restarts_inv a = becomes_inv a g (memory-fewer w.net w.out a (w.gates a) g (distinct_none SameTag) (λ t i. absurd (Memᴰ.not-nil i)) (λ y i. absurd (Memᴰ.not-nil i)) (v.memory a)) (λ b. refl)
+  restarts_inv a = becomes_inv a g (memory_fewer w.net w.out a (w.gates a) g (distinct_none SameTag) (λ t i. absurd (Memᴰ.not-nil i)) (λ y i. absurd (Memᴰ.not-nil i)) (v.memory a)) (λ b. refl)
     where
       g : Gate
       g = record { talks = []; waits = []; last_hello = (w.gates a).last_hello }
@@ -155,7 +155,7 @@ module _ (r : Rules) (w : World) (v : Inv r w) where
       becomes_inv
       a
       (with_talks (without_talk m (w.gates a).talks) (w.gates a))
-      (memory-fewer
+      (memory_fewer
       w.net
       w.out
       a
@@ -200,8 +200,8 @@ module _ (r : Rules) (w : World) (v : Inv r w) where
                 draws = distinct_cons SameDraw x w.net (λ y i s. fresh-draw t new y i (subst (λ z. Draws z y) (draws-it s.0 s.1) s.2)) v.kept.draws;
                 answers = distinct_cons SameAnswer x w.net answers-new v.kept.answers;
                 uses = distinct_cons SameUse x w.net (λ y i s. uses-none s.0 s.1 s.2) v.kept.uses;
-                puts-sent = λ p i. Memᴰ.tail (v.kept.puts-sent p i);
-                puts-apart = v.kept.puts-apart;
+                puts_sent = λ p i. Memᴰ.tail (v.kept.puts_sent p i);
+                puts_apart = v.kept.puts_apart;
                 outs_owned =
                     λ o i.
                     record {
@@ -221,7 +221,7 @@ module _ (r : Rules) (w : World) (v : Inv r w) where
               w.gates
               j
               (λ e. subst (λ k. Memory (x ∷ w.net) w.out k g) (sym e) good)
-              (λ ne. memory-net w.net w.out j (w.gates j) x (λ u n i. uses-none u.mine n) (λ y n i. uses-none y.tag n) (v.memory j));
+              (λ ne. memory_net w.net w.out j (w.gates j) x (λ u n i. uses-none u.mine n) (λ y n i. uses-none y.tag n) (v.memory j));
         }
 
   -- A hello is made.
@@ -261,7 +261,7 @@ module _ (r : Rules) (w : World) (v : Inv r w) where
             unmet =
                 λ u y i j s.
                 ⊎_elim
-                (λ (k : y ≡ this). fresh-drew t a p.0 (subst (λ z. Drew w.net a z) (s ∙ ap (λ (z : Wait). z.tag) k) (talk-drew a u i)))
+                (λ (k : y ≡ this). fresh-drew t a p.0 (subst (λ z. Drew w.net a z) (s ∙ ap (λ (z : Wait). z.tag) k) (talk_drew a u i)))
                 (λ k. (v.memory a).unmet u y i k s)
                 (Memᴰ.cases_cons j);
             talks_had = λ u i. had_net w.net w.out a u x (λ n k. k) ((v.memory a).talks_had u i);
@@ -333,7 +333,7 @@ module _ (r : Rules) (w : World) (v : Inv r w) where
       good : Memory (x ∷ w.net) w.out e g
       good =
           record {
-            apart = distinct_cons SameTag t (w.gates e).talks (λ u j s. fresh-drew new e p.0 (subst (λ z. Drew w.net e z) (sym s) (talk-drew e u j))) (v.memory e).apart;
+            apart = distinct_cons SameTag t (w.gates e).talks (λ u j s. fresh-drew new e p.0 (subst (λ z. Drew w.net e z) (sym s) (talk_drew e u j))) (v.memory e).apart;
             unmet =
                 λ u y j k s.
                 ⊎_elim
@@ -433,8 +433,8 @@ module _ (r : Rules) (w : World) (v : Inv r w) where
                 draws = distinct_cons SameDraw x w.net (λ y j s. draws-none s.0 s.1) v.kept.draws;
                 answers = distinct_cons SameAnswer x w.net (λ y j s. answers-none s.0 s.1) v.kept.answers;
                 uses = distinct_cons SameUse x w.net fresh v.kept.uses;
-                puts-sent = sent-too;
-                puts-apart = apart;
+                puts_sent = sent-too;
+                puts_apart = apart;
                 outs_owned =
                     λ o j.
                     record {
@@ -453,16 +453,16 @@ module _ (r : Rules) (w : World) (v : Inv r w) where
               g
               w.gates
               j
-              (λ e. subst (λ k. Memory (x ∷ w.net) w.out k g) (sym e) (memory-sent w.net w.out a (w.gates a) t x i uses-it (v.memory a)))
+              (λ e. subst (λ k. Memory (x ∷ w.net) w.out k g) (sym e) (memory_sent w.net w.out a (w.gates a) t x i uses-it (v.memory a)))
               (λ ne.
-              memory-net
+              memory_net
               w.net
               w.out
               j
               (w.gates j)
               x
-              (λ u n k l. drew_here a j u.mine ne (subst (λ z. Drew w.net a z) (sym (uses-it u.mine n l).0) (talk-drew a t i)) (talk-drew j u k))
-              (λ y n k l. drew_here a j y.tag ne (subst (λ z. Drew w.net a z) (sym (uses-it y.tag n l).0) (talk-drew a t i)) (wait_drew j y k))
+              (λ u n k l. drew_here a j u.mine ne (subst (λ z. Drew w.net a z) (sym (uses-it u.mine n l).0) (talk_drew a t i)) (talk_drew j u k))
+              (λ y n k l. drew_here a j y.tag ne (subst (λ z. Drew w.net a z) (sym (uses-it y.tag n l).0) (talk_drew a t i)) (wait_drew j y k))
               (v.memory j));
         }
       where
@@ -510,16 +510,16 @@ module _ (r : Rules) (w : World) (v : Inv r w) where
       (λ s d. d)
       (λ s d. d)
       (omega arith, may_send_most r (w.now a) t h.1.1, origin_grows a t.with' t.mine t.theirs (λ z j. Memᴰ.tail j) ((v.memory a).talks_had t h.0).origin, Memᴰ.head refl)
-      (each_cons (λ q. In (packet_of q) (y ∷ w.net)) p w.put (Memᴰ.head refl) (λ q j. Memᴰ.tail (v.kept.puts-sent q j)))
+      (each_cons (λ q. In (packet_of q) (y ∷ w.net)) p w.put (Memᴰ.head refl) (λ q j. Memᴰ.tail (v.kept.puts_sent q j)))
       (distinct_cons
       SameNote
       p
       w.put
       (λ q j s.
-      let k : q.number ≤ t.sent = ((v.memory a).talks_had t h.0).used (packet_of q) q.number (v.kept.puts-sent q j) (sym s.0, refl) in
+      let k : q.number ≤ t.sent = ((v.memory a).talks_had t h.0).used (packet_of q) q.number (v.kept.puts_sent q j) (sym s.0, refl) in
       let l : suc t.sent ≡ q.number = s.1 in
       omega arith)
-      v.kept.puts-apart)
+      v.kept.puts_apart)
     where
       y : Word
       y = Packet a t.with' t.mine t.theirs (suc t.sent) x
@@ -547,8 +547,8 @@ module _ (r : Rules) (w : World) (v : Inv r w) where
       (λ s d. d)
       (λ s d. d)
       (omega arith, may_send_most r (w.now a) t e, origin_grows a t.with' t.mine t.theirs (λ z j. Memᴰ.tail j) ((v.memory a).talks_had t h.0).origin)
-      (λ q j. Memᴰ.tail (v.kept.puts-sent q j))
-      v.kept.puts-apart)
+      (λ q j. Memᴰ.tail (v.kept.puts_sent q j))
+      v.kept.puts_apart)
       (λ e. v)
     where
       y : Word
@@ -565,8 +565,8 @@ module _ (r : Rules) (w : World) (v : Inv r w) where
               draws = v.kept.draws;
               answers = v.kept.answers;
               uses = v.kept.uses;
-              puts-sent = v.kept.puts-sent;
-              puts-apart = v.kept.puts-apart;
+              puts_sent = v.kept.puts_sent;
+              puts_apart = v.kept.puts_apart;
               outs_owned = owned;
               outs_apart = apart;
               hellos = λ j b. last_hello_lem (λ k. k ≤ w.now b) e b g w.gates j (λ s. v.kept.hellos e b) (v.kept.hellos j b);
@@ -579,16 +579,16 @@ module _ (r : Rules) (w : World) (v : Inv r w) where
             g
             w.gates
             j
-            (λ s. subst (λ k. Memory w.net (os ++ w.out) k g) (sym s) (memory-came w.net w.out os e n (w.gates e) t i of (v.memory e)))
+            (λ s. subst (λ k. Memory w.net (os ++ w.out) k g) (sym s) (memory_came w.net w.out os e n (w.gates e) t i of (v.memory e)))
             (λ ne.
-            memory-out
+            memory_out
             w.net
             w.out
             os
             j
             (w.gates j)
-            (λ o u k l s. drew_here e j u.mine ne (subst (λ z. Drew w.net e z) (sym (of o k).0 ∙ s) (talk-drew e t i)) (talk-drew j u l))
-            (λ o y k l s. drew_here e j y.tag ne (subst (λ z. Drew w.net e z) (sym (of o k).0 ∙ s) (talk-drew e t i)) (wait_drew j y l))
+            (λ o u k l s. drew_here e j u.mine ne (subst (λ z. Drew w.net e z) (sym (of o k).0 ∙ s) (talk_drew e t i)) (talk_drew j u l))
+            (λ o y k l s. drew_here e j y.tag ne (subst (λ z. Drew w.net e z) (sym (of o k).0 ∙ s) (talk_drew e t i)) (wait_drew j y l))
             (v.memory j));
       }
     where
@@ -631,7 +631,7 @@ module _ (r : Rules) (w : World) (v : Inv r w) where
       t = f.0
 
       of : (t.with' ≡ a) × (t.mine ≡ h) × (t.theirs ≡ m)
-      of = is-talk a h m t f.2
+      of = is_talk_lem a h m t f.2
 
       named : (q : Note) → In q (o ∷ []) → (q.gate_tag ≡ t.mine) × (q.number ≡ n)
       named = each_cons (λ q. (q.gate_tag ≡ t.mine) × (q.number ≡ n)) o [] (sym of.1, refl) (each_none _)
@@ -656,7 +656,7 @@ module _ (r : Rules) (w : World) (v : Inv r w) where
   empty_inv : (e a m h n new : ℕ) → comes_in r (w.now e) a h m n (w.gates e).talks ≡ true → Inv r (taken e new (Empty a e m h n) w)
   empty_inv e a m h n new c =
       let f = comes_in_lem r (w.now e) a h m n (w.gates e).talks c in
-      let of = is-talk a h m f.0 f.2 in
+      let of = is_talk_lem a h m f.0 f.2 in
       subst (λ k. Inv r (hears e k n [] w)) of.1 (hears_inv e n f.0 [] f.1 (each_none _) v.kept.outs_owned v.kept.outs_apart)
 
   -- A word of the net is brought.
@@ -719,8 +719,8 @@ start_inv r =
             draws = distinct_none SameDraw;
             answers = distinct_none SameAnswer;
             uses = distinct_none SameUse;
-            puts-sent = each_none _;
-            puts-apart = distinct_none SameNote;
+            puts_sent = each_none _;
+            puts_apart = distinct_none SameNote;
             outs_owned = each_none _;
             outs_apart = distinct_none SameNote;
             hellos = λ e a. omega arith;

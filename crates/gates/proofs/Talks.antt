@@ -70,8 +70,8 @@ comes_in_lem r now a m h n (t ∷ ts) e = go (is_talk a m h t) refl e (λ k. com
     go true i k rest = (t, Memᴰ.head refl, i, k)
     go false i k rest = later (rest k)
 
-pub is-talk : (a m h : ℕ) (t : Talk) → is_talk a m h t ≡ true → (t.with' ≡ a) × (t.mine ≡ m) × (t.theirs ≡ h)
-is-talk a m h t e =
+pub is_talk_lem : (a m h : ℕ) (t : Talk) → is_talk a m h t ≡ true → (t.with' ≡ a) × (t.mine ≡ m) × (t.theirs ≡ h)
+is_talk_lem a m h t e =
     let p = and_parts (eqb t.with' a) (eqb t.mine m && eqb t.theirs h) e in
     let q = and_parts (eqb t.mine m) (eqb t.theirs h) p.1 in
     (eqb-true t.with' a p.0, eqb-true t.mine m q.0, eqb-true t.theirs h q.1)
@@ -189,7 +189,7 @@ comes_in_talk r now a m h n (u ∷ us) t d i e = ⊎_elim here (λ k. there k (c
     there k rest = cond-false (is_talk a m h u) _ _ (other (is_talk a m h u) refl) ∙ rest
       where
         other : (b : Bool) → is_talk a m h u ≡ b → is_talk a m h u ≡ false
-        other true s = absurd (d.0 t k ((is-talk a m h u s).1 ∙ sym (is-talk a m h t e).1))
+        other true s = absurd (d.0 t k ((is_talk_lem a m h u s).1 ∙ sym (is_talk_lem a m h t e).1))
         other false s = s
 
 -- and does not where there is none

@@ -6,7 +6,7 @@ use Rattle.gates.specs.Talk.{Inner, Rules, Talk, may_come, came}
 use Rattle.gates.specs.World.{Word, Packet, Gate, Note, World, Ev, Brings, is_talk, comes_in, change, with_talks, note, hears, takes, taken, step, world}
 use Rattle.gates.specs.Promise.{mirror, may_pass, LetOut, Whole, Main}
 use Rattle.gates.proofs.Lists.{distinct_place, at_in}
-use Rattle.gates.proofs.Talks.{is-talk, comes_in_talk, comes_in_none, change_splits}
+use Rattle.gates.proofs.Talks.{is_talk_lem, comes_in_talk, comes_in_none, change_splits}
 use Rattle.gates.proofs.Invariant.{SameNote, packet_for, Inv}
 use Rattle.gates.proofs.Steps.{inv}
 use Rattle.gates.proofs.Nets.{honest, brings-at}
@@ -76,7 +76,7 @@ module _ (r : Rules) (es : List Ev) where
         (may_pass r (w.now e) a e n x t ≡ false → world r (Brings e i y ∷ es) ≡ w)
     comes_when t j s =
         let c = takes-is (may_come r (w.now e) n t) (comes_in_talk r (w.now e) a h m n (w.gates e).talks t (v.memory e).apart j s) in
-        (λ q. subst (LetOut e n t (note e a h m n x) w) (sym (accepted (c ∙ q))) (let_out t j (is-talk a h m t s).1), λ q. kept (c ∙ q))
+        (λ q. subst (LetOut e n t (note e a h m n x) w) (sym (accepted (c ∙ q))) (let_out t j (is_talk_lem a h m t s).1), λ q. kept (c ∙ q))
 
     no_talk : ((t : Talk) → In t (w.gates e).talks → is_talk a h m t ≡ false) → world r (Brings e i y ∷ es) ≡ w
     no_talk none = kept (takes-is false (comes_in_none r (w.now e) a h m n (w.gates e).talks none))

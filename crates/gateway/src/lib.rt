@@ -1,11 +1,8 @@
 // One gate: its memory, fixed in size, and each step of the protocol on words as values. Sealing, packets' bytes and who owns an address stand above it.
 // Assumes that drawn tags are new; what holds then is shown where gates and a net are looked at together.
 mod peers;
-mod promises;
-mod rules;
 mod state;
 mod steps;
 mod talks;
 
-pub use promises::refusals_change_nothing;
 pub use state::{Gateway, Peer, Taken, Talk, Wait, Word};

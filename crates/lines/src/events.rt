@@ -1,7 +1,7 @@
 // What can happen to a gate. Assumes nothing.
 
 /// One event of a gate's input.
-#[derive(Drop)]
+#[derive(Debug, Drop)]
 pub enum Event {
     /// One tick of the clock passes.
     Tick,

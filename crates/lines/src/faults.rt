@@ -2,7 +2,7 @@
 use std::fmt;
 
 /// What is wrong with a line. Columns are counted in bytes, from 1.
-#[derive(Clone, Copy)]
+#[derive(Clone, Copy, Debug, PartialEq, Eq)]
 pub enum LineFault {
     /// Nothing stands on the line.
     EmptyLine,

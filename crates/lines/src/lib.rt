@@ -5,6 +5,8 @@ mod faults;
 mod hex;
 mod names;
 mod reading;
+#[cfg(test)]
+mod tests;
 
 pub use events::Event;
 pub use faults::LineFault;

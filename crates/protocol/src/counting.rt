@@ -15,7 +15,7 @@ fn place(refusal: Refusal) -> usize
 }
 
 /// A count for each refusal. A count that has reached the largest number stays there.
-#[derive(Clone, Copy)]
+#[derive(Clone, Copy, Debug)]
 pub struct Counts {
     counts: [u64; 15],
 }

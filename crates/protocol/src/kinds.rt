@@ -8,7 +8,7 @@ use crate::limits::{HANDSHAKE, SEALED};
 use crate::refusals::Refusal;
 
 /// The kind of a word (a datagram on the outer network).
-#[derive(Clone, Copy)]
+#[derive(Clone, Copy, Debug, PartialEq, Eq)]
 pub enum Kind {
     /// The first word of a handshake: a tag and the maker's tick.
     Hello,

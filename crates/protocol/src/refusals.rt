@@ -5,7 +5,7 @@ ghost use Rattle.protocol.specs.declared.refusals.Refusal.{Refusal as Cause};
 ghost use Rattle.protocol.specs.Refusals.{refusal_number, refusal_sentence};
 
 /// The cause of a refusal. What is refused changes nothing and is answered by nothing.
-#[derive(Clone, Copy)]
+#[derive(Clone, Copy, Debug, PartialEq, Eq)]
 pub enum Refusal {
     /// A word whose first byte is no kind, or whose length doesn't fit its kind.
     UnknownWord,

@@ -84,10 +84,10 @@ first_both p q same (t ∷ ts) (Some u ∷ us) a = go (p t) refl (q u) refl (fir
     go false s false k rest = later (first_session p ts) (first_that q us) rest
 
 -- looking for a talk to send by among all is looking among those with that gate
-sending-peer : (r : Rules) (now e : ℕ) (ts : List Session) → worlds.for_sending r now e ts ≡ first_session (abstract.may_send r now) (with_peer e ts)
+sending_peer : (r : Rules) (now e : ℕ) (ts : List Session) → worlds.for_sending r now e ts ≡ first_session (abstract.may_send r now) (with_peer e ts)
 unfolding worlds.for_sending first_session with_peer
-sending-peer r now e [] = refl
-sending-peer r now e (t ∷ ts) = go (eqb t.with' e) (sending-peer r now e ts)
+sending_peer r now e [] = refl
+sending_peer r now e (t ∷ ts) = go (eqb t.with' e) (sending_peer r now e ts)
   where
     go : (b : Bool) → worlds.for_sending r now e ts ≡ first_session (abstract.may_send r now) (with_peer e ts) →
         cond (b && abstract.may_send r now t) (This t) (worlds.for_sending r now e ts) ≡ first_session (abstract.may_send r now) (cond b (t ∷ with_peer e ts) (with_peer e ts))
@@ -111,8 +111,8 @@ module _ (life most : ℕ) (owner : ℕ → ℕ) where
   abbrev r : Rules
   r = rules_of life most owner
 
-  pub send-same : (now : ℕ) (t : Session) (u : Talk) → SameTalk t u → abstract.may_send r now t ≡ may_send now life most u
-  send-same now t u h = cc (h.sure_so, h.born_so, h.sent_so)
+  send_same : (now : ℕ) (t : Session) (u : Talk) → SameTalk t u → abstract.may_send r now t ≡ may_send now life most u
+  send_same now t u h = cc (h.sure_so, h.born_so, h.sent_so)
 
   -- the talk to send by is found in both, or in neither
   pub sending_both : (now e : ℕ) (ts : List Session) (us : List (Option Talk)) → Agrees (with_peer e ts) us →
@@ -120,8 +120,8 @@ module _ (life most : ℕ) (owner : ℕ → ℕ) where
   sending_both now e ts us a =
       subst
       (λ f. FoundBoth (with_peer e ts) f (first_that (may_send now life most) us))
-      (sym (sending-peer r now e ts))
-      (first_both (abstract.may_send r now) (may_send now life most) (send-same now) (with_peer e ts) us a)
+      (sym (sending_peer r now e ts))
+      (first_both (abstract.may_send r now) (may_send now life most) (send_same now) (with_peer e ts) us a)
 
   verdict-ok : (v : Verdict) (u : Talk) → is_fresh v ≡ is_ok (by_verdict v u)
   verdict-ok Fresh u = refl
@@ -195,11 +195,11 @@ change_absent m f (t ∷ ts) n =
     cond-false (eqb t.mine m) _ _ (ne_eqb t.mine m (n t (Memᴰ.head refl))) ∙ ap (λ z. t ∷ z) (change_absent m f ts (λ u i. n u (Memᴰ.tail i)))
 
 -- changing a talk and looking at those with gate e go in either order
-pub change-peer : (e m : ℕ) (f : Session → Session) → ((t : Session) → (f t).with' ≡ t.with') → (ts : List Session) → Distinct SameTag ts →
+pub change_peer : (e m : ℕ) (f : Session → Session) → ((t : Session) → (f t).with' ≡ t.with') → (ts : List Session) → Distinct SameTag ts →
     with_peer e (change m f ts) ≡ change m f (with_peer e ts)
 unfolding with_peer change Distinct
-change-peer e m f keeps [] d = refl
-change-peer e m f keeps (t ∷ ts) d = go (eqb t.mine m) refl (eqb t.with' e) refl (change-peer e m f keeps ts d.1)
+change_peer e m f keeps [] d = refl
+change_peer e m f keeps (t ∷ ts) d = go (eqb t.mine m) refl (eqb t.with' e) refl (change_peer e m f keeps ts d.1)
   where
     go : (b : Bool) → eqb t.mine m ≡ b → (c : Bool) → eqb t.with' e ≡ c → with_peer e (change m f ts) ≡ change m f (with_peer e ts) →
         with_peer e (cond b (f t ∷ ts) (t ∷ change m f ts)) ≡ change m f (cond c (t ∷ with_peer e ts) (with_peer e ts))

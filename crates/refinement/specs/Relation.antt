@@ -51,8 +51,7 @@ pub record SamePeer (now : ℕ) (g : Gate) (e : ℕ) (p : Peer) : Type 0 where
   pub three : length p.talks ≡ 3
   pub waits_so : (n t : ℕ) → now ≤ n → waits_for n e t g.waits ≡ is_asked n t p
   pub six : length p.waits ≡ 6
-  pub placed : (i : ℕ) (x : Wait) → slice_index_or p.waits i None ≡ Some x → (x.at % 6 ≡ i) × (x.at ≤ p.greeted)
-  pub greeted_so : p.greeted ≤ now
+  pub placed : (i : ℕ) (x : Wait) → slice_index_or p.waits i None ≡ Some x → (x.at % 6 ≡ i) × (x.at ≤ now)
   pub hello_so : g.last_hello e ≡ p.last_hello
 
 -- A gate's memory stands for an abstract gate a of k gates, at this tick of its clock.

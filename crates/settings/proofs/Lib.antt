@@ -1,5 +1,11 @@
-pub mod Prefixes
+mod Prefixes
 mod Below
-pub mod Numbers
-pub mod Steps
-pub mod Whole
+mod Numbers
+mod Steps
+mod Whole
+mod Owning
+mod Written
+mod Agreeing
+mod Growing
+mod Taken
+mod Ruling

@@ -8,15 +8,15 @@ use Rattle.settings.specs.Ranges.{PrefixOf, IsPrefix, has_length, prefix_below, 
 pub length-is : (r : Range) (n : ℕ) → n < 33 → has_length r n ≡ true → PrefixOf n r
 length-is r n small passed = record { within = omega arith; begins = grind (arith, nat_tests); ends = grind (arith, nat_tests) }
 
-pub length-passes : (r : Range) (n : ℕ) → PrefixOf n r → has_length r n ≡ true
-length-passes r n is = grind (arith, nat_tests)
+pub length_passes : (r : Range) (n : ℕ) → PrefixOf n r → has_length r n ≡ true
+length_passes r n is = grind (arith, nat_tests)
 
 -- the test decides exactly whether a range is a prefix
 pub prefix_decides : (r : Range) → Decides (is_prefix r) (IsPrefix r)
 unfolding is_prefix
 prefix_decides r =
     let tried : Decides (prefix_below r 33) ((k : ℕ) × (k < 33) × (has_length r k ≡ true)) = Decides-below_or (has_length r) (λ k. has_length r k ≡ true) (prefix_below r) (λ k. (λ e. e, λ e. e)) refl (λ _. refl) 33 in
-    (λ passed. let found = tried.0 passed in (found.0, length-is r found.0 found.1 found.2), λ is. tried.1 (is.0, omega (arith, is.1), length-passes r is.0 is.1))
+    (λ passed. let found = tried.0 passed in (found.0, length-is r found.0 found.1 found.2), λ is. tried.1 (is.0, omega (arith, is.1), length_passes r is.0 is.1))
 
 -- a length that is found decides whether there is one
 pub some_decides : (r : Range) (o : Option ℕ) → MatchOption o (IsPrefix r → ⊥) (λ bits. PrefixOf bits r) → Decides (is_some o) (IsPrefix r)

@@ -18,7 +18,7 @@ pub entries_more : (bs : List ℕ) (s t : Settings) (i : ℕ) → entries_read b
 entries_more bs s t i read = rw add-one (ap (λ q. and_then q (entry_read bs i)) read)
 
 -- a fault stays the first one
-pub fault_stays : (bs : List ℕ) (s : Settings) (i more : ℕ) (e : Fault) → entries_read bs s i ≡ Err e → entries_read bs s (i + more) ≡ Err e
-fault_stays bs s i zero e failed = ap (entries_read bs s) (add-zero i) ∙ failed
-fault_stays bs s i (suc more) e failed =
-    ap (entries_read bs s) (add-suc i more) ∙ ap (λ q. and_then q (entry_read bs (i + more))) (fault_stays bs s i more e failed)
+pub fault-stays : (bs : List ℕ) (s : Settings) (i more : ℕ) (e : Fault) → entries_read bs s i ≡ Err e → entries_read bs s (i + more) ≡ Err e
+fault-stays bs s i zero e failed = ap (entries_read bs s) (add-zero i) ∙ failed
+fault-stays bs s i (suc more) e failed =
+    ap (entries_read bs s) (add-suc i more) ∙ ap (λ q. and_then q (entry_read bs (i + more))) (fault-stays bs s i more e failed)

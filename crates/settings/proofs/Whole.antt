@@ -10,7 +10,7 @@ use Rattle.settings.specs.Layout.{entry_at}
 use Rattle.settings.specs.Faults.{header_fault}
 use Rattle.settings.specs.Plans.{empty_settings}
 use Rattle.settings.specs.Reading.{header_read, entry_read, entries_read, end_read, settings_read}
-use Rattle.settings.proofs.Steps.{after-ok, after-err, entries_more, fault_stays}
+use Rattle.settings.proofs.Steps.{after-ok, after-err, entries_more, fault-stays}
 
 -- the settings with which the entries are begun
 abbrev pub begun : Header → Settings
@@ -26,15 +26,15 @@ module _ (rb bs : List ℕ) (h : Header) (same : rb ≡ bs) (head : Ok h ≡ hea
   entry_fault_lem i t e read failed less =
       let at : i + 1 + (h.gates - (i + 1)) ≡ h.gates = omega arith in
       let here : entries_read rb (begun h) (i + 1) ≡ Err e = entries_more rb (begun h) t i read ∙ sym failed in
-      let there : entries_read bs (begun h) h.gates ≡ Err e = sym (λ j. entries_read (same j) (begun h) (at j)) ∙ fault_stays rb (begun h) (i + 1) (h.gates - (i + 1)) e here in
+      let there : entries_read bs (begun h) h.gates ≡ Err e = sym (λ j. entries_read (same j) (begun h) (at j)) ∙ fault-stays rb (begun h) (i + 1) (h.gates - (i + 1)) e here in
       sym (after-ok _ (head ∙ ap header_read same) ∙ after-err _ (sym there))
 
   all_read : (i : ℕ) (t : Settings) → i ≡ h.gates → entries_read rb (begun h) i ≡ Ok t → entries_read bs (begun h) h.gates ≡ Ok t
   all_read i t at read = sym (λ j. entries_read (same j) (begun h) (at j)) ∙ read
 
-  pub end_fault : (i : ℕ) (t : Settings) (n : ℕ) → i ≡ h.gates → entries_read rb (begun h) i ≡ Ok t → n ≡ entry_at h.gates → (length bs ≡ n → ⊥) → Err (header_fault field.End Wrong) ≡ settings_read bs
+  pub end-fault : (i : ℕ) (t : Settings) (n : ℕ) → i ≡ h.gates → entries_read rb (begun h) i ≡ Ok t → n ≡ entry_at h.gates → (length bs ≡ n → ⊥) → Err (header_fault field.End Wrong) ≡ settings_read bs
   unfolding settings_read
-  end_fault i t n at read is wrong =
+  end-fault i t n at read is wrong =
       let test : eqb (length bs) (entry_at h.gates) ≡ false = grind (arith, nat_tests) in
       sym (after-ok _ (head ∙ ap header_read same) ∙ after-ok _ (sym (all_read i t at read)) ∙ ap (λ b. cond {A = Result Settings Fault} b (Ok t) (Err (header_fault field.End Wrong))) test)
 

@@ -6,4 +6,6 @@ pub mod Fields
 pub mod Plans
 pub mod Reading
 pub mod Writing
+pub mod Sound
 pub mod Making
+pub mod Runs

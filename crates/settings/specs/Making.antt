@@ -1,5 +1,5 @@
--- The settings of all gates from one plan and drawn bytes. Assumes nothing.
-use Rattle.std.specs.Prelude.{ℕ, zero, suc, ◌+◌, ◌*◌, cond, ◌||◌, List, map, length, replicate, Some, None, Option, ◌==◌, nat_lt, slice_set}
+-- The settings of all gates from one plan and drawn bytes, and what it means that settings agree. Assumes nothing.
+use Rattle.std.specs.Prelude.{◌≡◌, ℕ, zero, suc, ◌+◌, ◌*◌, ◌<◌, cond, ◌||◌, List, map, length, replicate, Some, None, Ok, Option, ◌==◌, nat_lt, slice_index_or, slice_set}
 use Rattle.std.specs.List.{range_with_len}
 use Rattle.protocol.specs.Limits.{gates_limit}
 use Rattle.settings.specs.declared.making.MakeFault.{MakeFault}
@@ -9,7 +9,9 @@ use Rattle.settings.specs.declared.plans.Plan.{Plan}
 use Rattle.settings.specs.declared.plans.Settings.{Settings}
 use Rattle.settings.specs.Fields.{part}
 use Rattle.settings.specs.Layout.{key_size}
-use Rattle.settings.specs.Plans.{blank_key}
+use Rattle.settings.specs.Plans.{blank_key, empty_settings, key_at}
+use Rattle.settings.specs.Reading.{settings_read}
+use Rattle.settings.specs.Writing.{bytes_of}
 
 -- which of the drawn keys is that of two gates: a row of 32 for each gate, of which the place of the lower gate is taken
 abbrev pub pair_place : ℕ → ℕ → ℕ
@@ -40,3 +42,25 @@ all_settings p drawn = map (settings_for p drawn) (range_with_len 0 p.gates)
 abbrev pub make_fault : Plan → List ℕ → Option MakeFault
 make_fault p drawn =
     cond (p.gates == 0 || nat_lt gates_limit p.gates) (Some WrongGates) (cond (nat_lt (length drawn) (drawn_needed p.gates)) (Some FewDrawn) None)
+
+-- the settings of a gate in a list
+abbrev pub settings_at : List Settings → ℕ → Settings
+settings_at all i = slice_index_or all i (empty_settings 0 0 0)
+
+-- settings agree: each gate has its place as its number, all have the same number of gates, life, most and ranges,
+-- and two gates have the same key with one another
+pub record Agree (all : List Settings) : Type 0 where
+  pub numbered : (i : ℕ) → i < length all → (settings_at all i).own ≡ i
+  pub counted : (i : ℕ) → i < length all → (settings_at all i).plan.gates ≡ length all
+  pub lives : (i j : ℕ) → i < length all → j < length all → (settings_at all i).plan.life ≡ (settings_at all j).plan.life
+  pub mosts : (i j : ℕ) → i < length all → j < length all → (settings_at all i).plan.most ≡ (settings_at all j).plan.most
+  pub tables : (i j : ℕ) → i < length all → j < length all → (settings_at all i).plan.ranges ≡ (settings_at all j).plan.ranges
+  pub keys : (i j : ℕ) → i < length all → j < length all → key_at (settings_at all i) j ≡ key_at (settings_at all j) i
+
+-- each gate reads its settings from the bytes that are written of them
+abbrev pub AllRead : List Settings → Type 0
+AllRead all = (i : ℕ) → i < length all → settings_read (bytes_of (settings_at all i)) ≡ Ok (settings_at all i)
+
+-- two pairs of different gates that have one place among the drawn keys are one pair
+abbrev pub PairsApart : Type 0
+PairsApart = (a b c d : ℕ) → a < b → b < 32 → c < d → d < 32 → pair_place a b ≡ pair_place c d → (a ≡ c) × (b ≡ d)

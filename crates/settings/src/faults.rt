@@ -3,12 +3,13 @@
 ghost use Rattle.std.specs.Prelude.{◌≡◌};
 ghost use Rattle.protocol.specs.declared.refusals.Refusal.TheVariants.{BadSettings};
 ghost use Rattle.settings.specs.Faults.{header_fault, entry_fault};
+ghost use Rattle.settings.specs.declared.faults.Cause.TheVariants as causes;
 
 use protocol::Refusal;
 use std::fmt;
 
 /// A field of settings.
-#[derive(Clone, Copy)]
+#[derive(Clone, Copy, Debug, PartialEq, Eq)]
 pub enum Field {
     /// The version of the format.
     Version,
@@ -33,7 +34,7 @@ pub enum Field {
 }
 
 /// Why a field is refused.
-#[derive(Clone, Copy)]
+#[derive(Clone, Copy, Debug, PartialEq, Eq)]
 pub enum Cause {
     /// The bytes end before it or in it.
     Missing,
@@ -44,7 +45,7 @@ pub enum Cause {
 }
 
 /// What is wrong with settings: the first field that is refused, of which gate's entry, and why.
-#[derive(Clone, Copy)]
+#[derive(Clone, Copy, Debug, PartialEq, Eq)]
 pub struct Fault {
     pub field: Field,
     pub gate: Option<u8>,
@@ -52,8 +53,8 @@ pub struct Fault {
 }
 
 impl Fault {
-    // The fault of a field before the entries.
-    pub(crate) fn in_header(field: Field, cause: Cause) -> Self
+    /// The fault of a field before the entries. It never refuses.
+    pub fn in_header(field: Field, cause: Cause) -> Self
         ensures { result ≡ header_fault field cause }
     {
         Fault {
@@ -63,8 +64,8 @@ impl Fault {
         }
     }
 
-    // The fault of a field of a gate's entry.
-    pub(crate) fn in_entry(field: Field, gate: u8, cause: Cause) -> Self
+    /// The fault of a field of a gate's entry. It never refuses.
+    pub fn in_entry(field: Field, gate: u8, cause: Cause) -> Self
         ensures { result ≡ entry_fault field gate cause }
     {
         Fault {

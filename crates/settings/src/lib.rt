@@ -1,5 +1,5 @@
 // The settings of a gate: what they are in bytes, who owns an address, and how the settings of all
-// gates are made from one plan. The theorems about them are in the crate `agreement`. Assumes nothing.
+// gates are made from one plan. Assumes nothing.
 mod faults;
 pub mod layout;
 mod making;
@@ -10,7 +10,8 @@ mod reading;
 mod writing;
 
 pub use faults::{Cause, Fault, Field};
-pub use making::{DRAWN, MakeFault, make_all};
-pub use plans::{Key, Plan, Settings};
-pub use ranges::{NOBODY, Range};
+pub use making::{DRAWN, MakeFault, make_all, pairs_apart_stated};
+pub use plans::{Key, Plan, Settings, runs_stated};
+pub use ranges::{NOBODY, Range, owner_stated};
 pub use reading::read;
+pub use writing::{reads_back_stated, writes_back_stated};

@@ -2,7 +2,8 @@
 // same. Assumes nothing.
 ghost use Rattle.std.specs.Prelude.{◌≡◌, ◌+◌, ◌*◌, ◌<◌, ◌≤◌, ◌⊎◌, length, IfOk, IfErr, Some, None};
 ghost use Rattle.settings.specs.declared.making.MakeFault.TheVariants.{NoMemory};
-ghost use Rattle.settings.specs.Making.{pair_place, drawn_needed, key_for, settings_for, all_settings, make_fault};
+ghost use Rattle.settings.specs.Sound.{SoundPlan};
+ghost use Rattle.settings.specs.Making.{pair_place, drawn_needed, key_for, settings_for, all_settings, make_fault, Agree, AllRead, PairsApart};
 
 use crate::layout::KEY;
 use crate::plans::{Key, Plan, Settings};
@@ -13,7 +14,7 @@ use std::alloc::Global;
 pub const DRAWN: usize = MAX_GATES * KEY;
 
 /// Why the settings of all gates can't be made.
-#[derive(Clone, Copy)]
+#[derive(Clone, Copy, Debug, PartialEq, Eq)]
 pub enum MakeFault {
     /// The plan has no gates, or more than there can be.
     WrongGates,
@@ -64,6 +65,8 @@ pub fn make_all(heap: Global, plan: Plan, drawn: &[u8]) -> Result<Vec<Settings>,
     ensures value { IfOk result (λ v. v.items ≡ all_settings plan drawn.now) }
     ensures fault { IfErr result (λ e. (e ≡ NoMemory) ⊎ (make_fault plan drawn.now ≡ Some e)) }
     ensures able { IfOk result (λ v. make_fault plan drawn.now ≡ None) }
+    ensures agree { IfOk result (λ v. Agree v.items) }
+    ensures reads { SoundPlan plan → IfOk result (λ v. AllRead v.items) }
 {
     if plan.gates == 0 || usize::from(plan.gates) > MAX_GATES {
         return Err(MakeFault::WrongGates);
@@ -80,3 +83,9 @@ pub fn make_all(heap: Global, plan: Plan, drawn: &[u8]) -> Result<Vec<Settings>,
     }
     Ok(all)
 }
+
+/// States that different pairs of gates never have their keys from the same drawn bytes. It does
+/// nothing.
+pub fn pairs_apart_stated()
+    ensures { PairsApart }
+{}

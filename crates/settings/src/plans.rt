@@ -1,6 +1,8 @@
 // What all gates share, and the settings of one gate. Memory is fixed: places past the last gate
 // are blank. Assumes nothing.
-ghost use Rattle.std.specs.Prelude.{◌≡◌, ◌<◌, slice_index_or};
+ghost use Rattle.std.specs.Prelude.{◌≡◌, ◌<◌, IfOk, slice_index_or};
+ghost use Rattle.settings.specs.Sound.{SoundPlan};
+ghost use Rattle.settings.specs.Runs.{RunsAreOwned};
 ghost use Rattle.settings.specs.Ranges.{range_at, as_gate};
 ghost use Rattle.settings.specs.Plans.{empty_plan, plan_with, empty_settings, settings_with, range_cause, owner_in, new_plan, add_to, blank_key, key_at, outside_of};
 
@@ -9,14 +11,14 @@ use crate::ranges::{Range, owner_below, range_at, same_below};
 use protocol::limits::{MAX_GATES, MAX_LIFE, MIN_LIFE, MIN_MOST};
 
 /// A pair key.
-#[derive(Clone, Copy)]
+#[derive(Clone, Copy, Debug)]
 pub struct Key {
     pub(crate) bytes: [u8; 32],
 }
 
 /// What all gates share: the life of a talk, the most packets that one sends, and for each gate
 /// the range that it owns and its address outside.
-#[derive(Clone, Copy)]
+#[derive(Clone, Copy, Debug)]
 pub struct Plan {
     pub(crate) life: u16,
     pub(crate) most: u32,
@@ -26,7 +28,7 @@ pub struct Plan {
 }
 
 /// The settings of one gate: what all gates share, its own number, and its key with each gate.
-#[derive(Clone, Copy)]
+#[derive(Clone, Copy, Debug)]
 pub struct Settings {
     pub(crate) own: u8,
     pub(crate) plan: Plan,
@@ -74,7 +76,8 @@ impl Plan {
 
     /// A plan with no gates yet. Refuses a life or most that is out of range, and names which.
     pub fn new(life: u16, most: u32) -> Result<Self, Fault>
-        ensures { result ≡ new_plan life most }
+        ensures value { result ≡ new_plan life most }
+        ensures sound { IfOk result SoundPlan }
     {
         if life < MIN_LIFE || life > MAX_LIFE {
             return Err(Fault::in_header(Field::Life, Cause::Wrong));
@@ -88,7 +91,8 @@ impl Plan {
     /// The plan with one gate more, which has the next number. Refuses a gate for which there is no
     /// place, and a range that is no whole prefix or that an earlier gate has.
     pub fn add(self, range: Range, outside: u32) -> Result<Self, Fault>
-        ensures { result ≡ add_to self range outside }
+        ensures value { result ≡ add_to self range outside }
+        ensures sound { SoundPlan self → IfOk result SoundPlan }
     {
         if usize::from(self.gates) >= MAX_GATES {
             return Err(Fault::in_header(Field::Gates, Cause::Wrong));
@@ -213,3 +217,10 @@ impl Key {
         &self.bytes
     }
 }
+
+/// States that the owner by a plan is the abstract protocol's: in every run by its rules, what came out
+/// came from an address that the gate by whom it says it is owns, for an address that the gate where it
+/// came out owns. It does nothing.
+pub fn runs_stated()
+    ensures { RunsAreOwned }
+{}

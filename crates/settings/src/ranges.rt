@@ -1,20 +1,21 @@
 // Ranges of addresses that are one prefix, and who owns an address. Assumes nothing.
 ghost use Rattle.std.specs.Prelude.{◌≡◌, ◌<◌, ◌≤◌, MatchOption};
+ghost use Rattle.settings.specs.Owners.{OwnerIsLongest, OwnerIsUnique};
 ghost use Rattle.settings.specs.Ranges.{range_at, holds, span, PrefixOf, IsPrefix, has_length, is_prefix, same_range, same_below, better, owner_below, as_gate};
 
 /// The number that stands for nobody in promises: no gate has it.
 pub const NOBODY: u8 = 255;
 
 /// A range of IPv4 addresses, both ends included.
-#[derive(Clone, Copy)]
+#[derive(Clone, Copy, Debug, PartialEq, Eq)]
 pub struct Range {
     pub first: u32,
     pub last: u32,
 }
 
 impl Range {
-    // Whether the range holds this address.
-    fn holds(self, address: u32) -> bool
+    /// Whether the range holds this address. It changes nothing.
+    pub fn holds(self, address: u32) -> bool
         ensures { result ≡ holds self address }
     {
         self.first <= address && address <= self.last
@@ -57,8 +58,8 @@ impl Range {
         None
     }
 
-    // Whether the range is all the addresses of one prefix.
-    pub(crate) fn is_prefix(self) -> bool
+    /// Whether the range is all the addresses of one prefix. It changes nothing.
+    pub fn is_prefix(self) -> bool
         ensures { result ≡ is_prefix self }
     {
         self.prefix_length().is_some()
@@ -114,3 +115,10 @@ pub(crate) fn owner_below(ranges: &[Range], address: u32, gates: u8) -> Option<u
     }
     if owner == NOBODY { None } else { Some(owner) }
 }
+
+/// States that the owner of an address is the gate with the longest prefix that holds it, that
+/// nobody owns what no prefix holds, and that no two gates own one address. It does nothing.
+pub fn owner_stated()
+    ensures longest { OwnerIsLongest }
+    ensures unique { OwnerIsUnique }
+{}

@@ -1,5 +1,6 @@
 // The bytes of settings. Assumes nothing.
 ghost use Rattle.std.specs.Prelude.{◌≡◌, true, ◌++◌, is_ok, IfOk};
+ghost use Rattle.settings.specs.Sound.{ReadsBack, WritesBack};
 ghost use Rattle.settings.specs.Writing.{header_bytes, place_bytes, entry_bytes, bytes_of};
 
 use crate::plans::Settings;
@@ -66,3 +67,14 @@ impl Settings {
         Ok(bytes)
     }
 }
+
+/// States that reading what was written gives it back, for all settings that are allowed. It does
+/// nothing.
+pub fn reads_back_stated()
+    ensures { ReadsBack }
+{}
+
+/// States that what was read is allowed, and that writing it gives the bytes. It does nothing.
+pub fn writes_back_stated()
+    ensures { WritesBack }
+{}

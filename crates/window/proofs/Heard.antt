@@ -9,7 +9,7 @@ use Rattle.window.specs.Heard.{look_bits, after_bits, Stands, is_fresh, AsInTalk
 use Rattle.window.specs.declared.state.Window.{Window}
 use Rattle.window.specs.declared.state.Verdict.TheVariants.{Fresh, TooOld, Came}
 use Rattle.window.proofs.Bits.{bit-zero}
-use Rattle.window.proofs.Ring.{marked-length, marked-same, marked_other, cleared-length, passed-kept, passed-clear}
+use Rattle.window.proofs.Ring.{marked-length, marked-same, marked_other, cleared-length, passed_kept, passed-clear}
 
 -- no number above the highest came
 pub none_above : (w : Window) (top : ℕ) (heard : List ℕ) (n : ℕ) → Stands w top heard → top < n → is_in n heard ≡ false
@@ -74,9 +74,9 @@ noted-stands w top heard n s h k =
         ∙ sym (ap (λ b. b || is_in m heard) (ne_eqb n m (λ e. d (sym e))))
 
 -- the highest number may grow past words, which are cleared
-grown-stands : (w : Window) (heard : List ℕ) (n : ℕ) → Stands w w.top heard → w.top < n
+grown_stands : (w : Window) (heard : List ℕ) (n : ℕ) → Stands w w.top heard → w.top < n
     → Stands (record { top = n; ring = passed w.top n w.ring }) n heard
-grown-stands w heard n s h =
+grown_stands w heard n s h =
     record {
       highest = refl;
       above = λ m e. let f = s.above m e in omega arith;
@@ -85,7 +85,7 @@ grown-stands w heard n s h =
     }
   where
     kept : (m : ℕ) → block m ≤ block w.top → block n < block m + words → is_marked m (passed w.top n w.ring) ≡ is_in m heard
-    kept m k u = passed-kept m w.top n w.ring k u ∙ s.bits m k (omega arith)
+    kept m k u = passed_kept m w.top n w.ring k u ∙ s.bits m k (omega arith)
 
     cleared : (m : ℕ) → block w.top < block m → block m ≤ block n → is_marked m (passed w.top n w.ring) ≡ is_in m heard
     cleared m k l =
@@ -98,7 +98,7 @@ raised-stands w top heard n s =
   where
     go : Stands w w.top heard → (b : Bool) → ltb w.top n ≡ b
         → Stands (cond b (record { top = n; ring = passed w.top n w.ring }) w) (cond b n w.top) heard
-    go own true e = grown-stands w heard n own (ltb-true w.top n e)
+    go own true e = grown_stands w heard n own (ltb-true w.top n e)
     go own false e = own
 
 -- the window stands for the list with one number more, if that is not too old

@@ -70,9 +70,9 @@ cleared-same from (suc k) j ring whole h =
         ∙ before (⊎_elim (λ (l : j < k). l) (λ (l : k ≤ j). absurd (d (ap (λ x. (from + x) % words) (omega arith)))) (cases_lt j k))
 
 -- of the blocks that stay in the ring, those up to the highest number keep their bits
-pub passed-kept : (m top n : ℕ) (ring : List ℕ) → block m ≤ block top → block n < block m + words
+pub passed_kept : (m top n : ℕ) (ring : List ℕ) → block m ≤ block top → block n < block m + words
     → is_marked m (passed top n ring) ≡ is_marked m ring
-passed-kept m top n ring h k =
+passed_kept m top n ring h k =
     ap (λ w. bit w (m % word_bits)) (cleared-other (block top + 1) (min (block n - block top) words) (place m) ring (λ j l e. omega arith))
 
 -- and those above it, up to that of the new highest, have none

@@ -1,9 +1,10 @@
-use Rattle.std.proofs.Common.{◌≡◌, ◌+◌, ◌*◌, ◌≤◌, true, cond, List, [], ◌∷◌, ◌++◌, map, length, None, vec_items, sym, ap, ◌∙◌, arith, rules}
+use Rattle.std.proofs.Common.{◌≡◌, ◌+◌, ◌*◌, ◌≤◌, true, cond, List, [], ◌∷◌, ◌++◌, map, length, None, vec_items, sym, refl, ap, ◌∙◌, subst, arith, rules}
 use Rattle.std.proofs.lemmas.List.FromFn.{map-range_with_len_more}
 use Rattle.std.proofs.lemmas.Bool.Decides.{nat_tests}
 use Rattle.std.specs.List.{range_with_len}
 use Rattle.settings.specs.declared.plans.Settings.{Settings}
-use Rattle.settings.specs.Making.{settings_for, all_settings}
+use Rattle.settings.specs.Making.{settings_for, all_settings, make_fault, Agree, AllRead}
+use Rattle.settings.proofs.Agreeing.{agree, all_read}
 use Rattle.settings.proofs.making.make_all.Goals as goal
 
 pub loop-own-preserved : goal.loop-own-preserved
@@ -17,9 +18,13 @@ pub returns : goal.returns
 unfolding all_settings
 returns c =
     let at : c.loop-own.own ≡ c.args.plan.gates = omega arith in
+    let few : c.args.plan.gates ≤ 32 = omega arith in
+    let enough : 1024 * c.args.plan.gates ≤ length c.args.drawn.now = omega arith in
     let is : vec_items c.loop-own.all ≡ map (settings_for c.args.plan c.args.drawn.now) (range_with_len 0 c.args.plan.gates) = c.loop-own.invariant ∙ ap (λ n. map (settings_for c.args.plan c.args.drawn.now) (range_with_len 0 n)) at in
     record {
       value = is;
       fault = tt;
       able = grind (arith, nat_tests);
+      agree = subst Agree (sym is) (agree c.args.plan c.args.drawn.now few);
+      reads = λ plan. subst AllRead (sym is) (all_read c.args.plan c.args.drawn.now few enough plan);
     }

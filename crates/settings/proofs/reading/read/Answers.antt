@@ -2,7 +2,7 @@ use Rattle.std.proofs.Common.{◌≡◌, ◌+◌, ◌≤◌, Ok, Err, sym, refl,
 use Rattle.std.proofs.lemmas.Result.{err_from_is_err_and}
 use Rattle.settings.specs.declared.plans.Settings.{Settings}
 use Rattle.settings.proofs.Steps.{entries_more}
-use Rattle.settings.proofs.Whole.{begun, header_fault_lem, entry_fault_lem, end_fault, whole}
+use Rattle.settings.proofs.Whole.{begun, header_fault_lem, entry_fault_lem, end-fault, whole}
 use Rattle.settings.proofs.reading.read.Goals as goal
 
 pub returns-in-err-header : goal.returns-in-err-header
@@ -28,7 +28,7 @@ loop-gate-preserved c =
 pub returns-then-bytes-entry-at : goal.returns-then-bytes-entry-at
 returns-then-bytes-entry-at c =
     let at : c.loop-gate.gate ≡ c.in-ok-header.header.gates = omega arith in
-    record { value = ap Err c.in-header.ensures ∙ end_fault _ _ _ c.new-reader.ensures c.in-ok-header.ensures.value c.loop-gate.gate c.loop-gate.settings c.entry-at.result at c.loop-gate.invariant.0 c.entry-at.ensures c.if-bytes-entry-at.true }
+    record { value = ap Err c.in-header.ensures ∙ end-fault _ _ _ c.new-reader.ensures c.in-ok-header.ensures.value c.loop-gate.gate c.loop-gate.settings c.entry-at.result at c.loop-gate.invariant.0 c.entry-at.ensures c.if-bytes-entry-at.true }
 
 pub returns : goal.returns
 returns c =

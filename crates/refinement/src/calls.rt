@@ -1,0 +1,67 @@
+// The public calls of a gate, each with the events of the abstract protocol that it is. Assumes nothing.
+ghost use Rattle.std.specs.Prelude.{◌≡◌, ℕ, ◌^◌, ◌<◌};
+ghost use Rattle.gates.specs.World.{empty_gate};
+ghost use Rattle.gateway.specs.Steps.{fresh, took, took_after, greet_after, put_after, ticked, restarted};
+ghost use Rattle.gateway.specs.Steps.{put as put_answer, greet as greet_answer};
+ghost use Rattle.refinement.specs.Relation.{Stands};
+ghost use Rattle.refinement.specs.Term.{AsAsked};
+ghost use Rattle.refinement.specs.Steps.{TakeFollows, PutFollows, GreetFollows, TickFollows, RestartFollows};
+
+use gateway::{Gateway, Taken, Word};
+use protocol::Refusal;
+
+/// A gate that was just made: its number, how many gates there are, and for how many ticks and numbers a talk is good.
+pub fn start(own: u8, gates: u8, life: u16, most: u32) -> Gateway
+    ensures value { result ≡ fresh own gates life most }
+    ensures stands { Stands gates life most own result 1 empty_gate }
+{
+    Gateway::new(own, gates, life, most)
+}
+
+/// A word is brought from outside, with a tag drawn for a reply, 0 where there is none. A refusal changes nothing.
+pub fn take(gate: &mut Gateway, word: Word, drawn: u64) -> Result<Taken, Refusal>
+    ensures answer { result ≡ took word drawn gate.old }
+    ensures after { gate.new ≡ took_after word drawn gate.old }
+    ensures follows { TakeFollows word drawn gate.old result gate.new }
+{
+    gate.take(word, drawn)
+}
+
+/// A packet is put in, by the owners of its source and its destination. A refusal changes nothing.
+pub fn put(gate: &mut Gateway, source: u8, goal: u8) -> Result<Option<Word>, Refusal>
+    ensures answer { result ≡ put_answer source goal gate.old }
+    ensures after { gate.new ≡ put_after source goal gate.old }
+    ensures follows { PutFollows source goal gate.old result gate.new }
+{
+    gate.put(source, goal)
+}
+
+/// Makes a hello to a gate under a drawn tag, if one can be made; else nothing is changed.
+pub fn greet(gate: &mut Gateway, to: u8, tag: u64) -> Option<Word>
+    ensures answer { result ≡ greet_answer to tag gate.old }
+    ensures after { gate.new ≡ greet_after to tag gate.old }
+    ensures follows { GreetFollows to tag gate.old result gate.new }
+{
+    gate.greet(to, tag)
+}
+
+/// A tick passes.
+pub fn tick(gate: &mut Gateway)
+    ensures after { gate.new ≡ ticked gate.old }
+    ensures follows { TickFollows gate.old gate.new }
+{
+    gate.tick();
+}
+
+/// The gate is switched off and on.
+pub fn restart(gate: &mut Gateway)
+    ensures after { gate.new ≡ restarted gate.old }
+    ensures follows { RestartFollows gate.old gate.new }
+{
+    gate.restart();
+}
+
+// Any gates that run these calls, and a net, do only runs of the abstract protocol: the calls are the code that it asks for.
+pub fn code_is_as_asked()
+    ensures { AsAsked }
+{}
