@@ -1,5 +1,7 @@
 // Decimal numbers, IPv4 addresses and prefixes as text, in the one way in which they are written:
 // no sign, no zeros in front. A text is bytes, whether they are text or not. Assumes nothing.
+#![tactic(auto)]
+
 mod dotted;
 mod marks;
 mod numbers;

@@ -21,7 +21,7 @@ use Rattle.draft.specs.Ranges.{range_of}
 use Rattle.draft.specs.Reading.{or_wrong, lines_taken, draft_read}
 use Rattle.draft.specs.Words.{words_of}
 use Rattle.agreement.specs.Drafts.{DraftsAreSound}
-use Rattle.agreement.specs.Sound.{SoundPlan}
+use Rattle.settings.specs.Sound.{SoundPlan}
 use Rattle.agreement.proofs.Growing.{plans_sound}
 
 -- a draft whose plan is allowed, and whose most fits

@@ -3,7 +3,7 @@ use Rattle.std.specs.Prelude.{◌≡◌, ℕ, List, Some, Ok}
 use Rattle.settings.specs.declared.plans.Plan.{Plan}
 use Rattle.draft.specs.declared.drafts.Draft.{Draft}
 use Rattle.draft.specs.Reading.{draft_read}
-use Rattle.agreement.specs.Sound.{SoundPlan}
+use Rattle.settings.specs.Sound.{SoundPlan}
 
 -- a plan that is read from a text is allowed, whatever the text
 abbrev pub DraftsAreSound : Type 0

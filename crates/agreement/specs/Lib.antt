@@ -1,4 +1,2 @@
-pub mod Sound
 pub mod Agreement
-pub mod Runs
 pub mod Drafts

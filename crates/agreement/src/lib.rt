@@ -1,11 +1,16 @@
-// Theorems about settings, each as a function's contract: reading and writing are inverse, the
-// settings that are made from one plan agree, and in every run what comes out is owned by the
-// longest prefix. Assumes nothing.
-mod making;
-mod theorems;
+// Theorems about plans, each as a function's contract: those that are made step by step, and those
+// that texts say, are allowed. Assumes nothing.
+#![tactic(auto)]
 
-pub use making::make_all;
-pub use theorems::{
-    drafts_stated, owner_stated, pairs_apart_stated, plans_stated, reads_back_stated, runs_stated,
-    writes_back_stated,
-};
+ghost use Rattle.agreement.specs.Agreement.{PlansAreSound};
+ghost use Rattle.agreement.specs.Drafts.{DraftsAreSound};
+
+/// States that a plan is allowed when it is begun, and stays so with every gate that is added.
+pub fn plans_stated()
+    ensures { PlansAreSound }
+{}
+
+/// States that a plan that is read from a text is allowed, whatever the text.
+pub fn drafts_stated()
+    ensures { DraftsAreSound }
+{}

@@ -1,4 +1,6 @@
 // The program `cases`: runs the worked cases on a gate's code, a row a line, and says of each whether it went as expected.
+#![tactic(auto)]
+
 mod play;
 mod rows;
 mod table;

@@ -1,4 +1,6 @@
 // ChaCha20 (RFC 8439): the block, and turning a text in place, in scalar form and by lanes.
+#![tactic(auto)]
+
 mod fault;
 mod lanes;
 mod rows;

@@ -1,4 +1,6 @@
 // SHA-256 and HMAC-SHA-256 (RFC 6234).
+#![tactic(auto)]
+
 mod codes;
 mod compare;
 mod hashing;

@@ -1,4 +1,6 @@
 // The program `gate`: one gate between its standard input and its standard output, an event a line.
+#![tactic(auto)]
+
 mod state;
 
 use anyhow::anyhow;

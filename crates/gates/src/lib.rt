@@ -1,4 +1,6 @@
 // The abstract protocol has no code but its theorems: each function's contract is one of them, and calling it does nothing.
+#![tactic(auto)]
+
 ghost use Rattle.gates.specs.Promise.{Main, AllApart, AllProper, AllTaking};
 ghost use Rattle.gates.specs.Stories.{Stories};
 

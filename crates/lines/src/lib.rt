@@ -1,5 +1,7 @@
 // The input lines of the program `gate`: hex digits, and which bytes are which event. Bytes are
 // read as they are, whether they are text or not. Assumes nothing.
+#![tactic(auto)]
+
 mod events;
 mod faults;
 mod hex;

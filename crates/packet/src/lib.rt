@@ -1,5 +1,7 @@
 // Which bytes are an IPv4 packet that may pass, whence it comes and where it is to go. Assumes
 // nothing.
+#![tactic(auto)]
+
 mod reading;
 mod sums;
 

@@ -1,12 +1,13 @@
 // The program `plan`: makes the settings of all gates from a text and drawn bytes, shows a file of
 // settings without its keys, and checks one.
+#![tactic(auto)]
+
 mod showing;
 
-use agreement::make_all;
 use anyhow::anyhow;
 use draft::{Draft, Name};
 use lines::encode;
-use settings::{DRAWN, MakeFault, Plan, Settings};
+use settings::{DRAWN, MakeFault, Plan, Settings, make_all};
 use showing::show;
 use std::fs::File;
 use std::io::{Read, Write};

@@ -1,5 +1,7 @@
 // Theorems of the bytes of words and of reading them: each function's contract is one of them, and
 // calling it does nothing.
+#![tactic(auto)]
+
 ghost use Rattle.reading.specs.Order.{FirstFault};
 ghost use Rattle.reading.specs.Sealed.{ReadsBack, Lengths, Gates, Local};
 

@@ -1,5 +1,7 @@
 // That a gate's code does what the abstract protocol says. The public calls of a gate again, each with what it means in every run whose gate its memory stands
 // for; and many gates with a net of words. Assumes that drawn tags are new, where a contract says so.
+#![tactic(auto)]
+
 mod acts;
 mod calls;
 mod sea;

@@ -1,15 +1,14 @@
-// The program `samples`: says of packets, settings, lines of input and texts of plans, given as hex,
-// what is read of them. Its input is a table of whole, damaged and cut ones; what it must write was
-// made by another program.
+// The program `samples`: says of packets and settings, given as hex, what is read of them. Its
+// input is a table of whole, damaged and cut ones; what it must write was made by another program.
 //
 //     packet LABEL HEX           LABEL from A.B.C.D to A.B.C.D, or LABEL refused N
 //     settings LABEL HEX         LABEL right, or LABEL refused N: what is wrong
 //     owner LABEL HEX ADDRESS    LABEL gate N, or LABEL nobody; the address is 8 hex digits
-//     line LABEL HEX             LABEL tick, fall, or the event and its bytes; or LABEL what is wrong
-//     plan LABEL HEX             LABEL right, N gates, or LABEL line N: what is wrong
+#![tactic(auto)]
+
 use anyhow::anyhow;
-use lines::{Event, decode, encode, read_line};
-use std::io::{BufRead, BufReader, Write};
+use lines::decode;
+use std::io::{BufRead, BufReader};
 
 fn main(rt: HostRuntime) -> anyhow::Result<()> {
     run(&rt)
@@ -33,8 +32,6 @@ fn run(rt: &HostRuntime) -> anyhow::Result<()> {
                 let address = hex(rt, words.next())?;
                 owner_line(rt, label, bytes.as_slice(), address.as_slice())?;
             }
-            "line" => event_line(rt, label, bytes.as_slice())?,
-            "plan" => plan_line(rt, label, bytes.as_slice())?,
             _ => return Err(anyhow!("a line is of no kind")),
         }
     }
@@ -88,45 +85,6 @@ fn owner_line(rt: &HostRuntime, label: &str, bytes: &[u8], address: &[u8]) -> an
     match found.plan().owner(u32::from_be_bytes([*a, *b, *c, *d])) {
         Some(gate) => println!(rt; "{label} gate {gate}")?,
         None => println!(rt; "{label} nobody")?,
-    }
-    Ok(())
-}
-
-// Prints an event that has bytes.
-fn print_event(rt: &HostRuntime, label: &str, name: &str, bytes: &[u8]) -> anyhow::Result<()> {
-    print!(rt; "{label} {name} ")?;
-    let mut text = encode(rt.alloc(), bytes)?;
-    text.push(b'\n')?;
-    rt.stdout().write_all(text.as_slice())?;
-    Ok(())
-}
-
-fn event_line(rt: &HostRuntime, label: &str, bytes: &[u8]) -> anyhow::Result<()> {
-    match read_line(rt.alloc(), bytes) {
-        Ok(Event::Tick) => println!(rt; "{label} tick")?,
-        Ok(Event::Fall) => println!(rt; "{label} fall")?,
-        Ok(Event::Drawn(drawn)) => print_event(rt, label, "drawn", drawn.as_slice())?,
-        Ok(Event::Packet(packet)) => print_event(rt, label, "packet", packet.as_slice())?,
-        Ok(Event::Word(word)) => print_event(rt, label, "word", word.as_slice())?,
-        Err(fault) => println!(rt; "{label} {fault}")?,
-    }
-    Ok(())
-}
-
-fn plan_line(rt: &HostRuntime, label: &str, text: &[u8]) -> anyhow::Result<()> {
-    match draft::read(text) {
-        Ok(read) => {
-            let gates = match read.plan() {
-                Some(plan) => plan.gates(),
-                None => 0,
-            };
-            println!(rt; "{label} right, {gates} gates")?;
-        }
-        Err(wrong) => {
-            let line = wrong.line;
-            let fault = wrong.fault;
-            println!(rt; "{label} line {line}: {fault}")?;
-        }
     }
     Ok(())
 }

@@ -1,5 +1,7 @@
 // The seals as C functions, for the benchmark under host/bench. A key has 32 bytes and a nonce 12; what is missing is taken as zeros,
 // and what is refused is answered by 1.
+#![tactic(auto)]
+
 use cipher::{turn, turn_scalar};
 use digest::{Key, hmac, sha256};
 

@@ -6,6 +6,6 @@ mod Whole
 mod Owning
 mod Written
 mod Agreeing
-mod Growing
+pub mod Growing
 mod Taken
 mod Ruling

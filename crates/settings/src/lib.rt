@@ -1,5 +1,7 @@
 // The settings of a gate: what they are in bytes, who owns an address, and how the settings of all
 // gates are made from one plan. Assumes nothing.
+#![tactic(auto)]
+
 mod faults;
 pub mod layout;
 mod making;

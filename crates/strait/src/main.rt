@@ -1,5 +1,7 @@
 // Plays a story with three gates and a net that keeps every word, and says what came out and what did not. The gates are the proved ones: what they let out was
 // put in, by whom it says, for here, once.
+#![tactic(auto)]
+
 use gateway::Word;
 use refinement::{Event, Letter, Parcel, Sea};
 

@@ -1,5 +1,6 @@
 // Runs the published vectors of the seals, and lengths 0 to 300, and prints what comes out; `stdout` has what another
 // implementation gives (tests/vectors.py writes it).
+#![tactic(auto)]
 
 mod chacha20;
 mod hmac_sha256;

@@ -1,5 +1,7 @@
 // A replay window: which numbers of a session came, as in RFC 4303, section 3.4.3, kept in a ring of words as in RFC 6479.
 // The numbers of a block of 64 have their bits in one word: the block's, modulo the words of the ring. Numbers go up to 2^64 - 1, and nothing wraps.
+#![tactic(auto)]
+
 ghost use Rattle.std.specs.Prelude.{◌≡◌, ℕ, List, [], ◌∷◌};
 ghost use Rattle.gates.specs.Talk.{larger};
 ghost use Rattle.window.specs.Edges.{Edges};

@@ -1,5 +1,7 @@
 // Words as bytes: sealing each kind, reading it, and the keys that a gate keeps for it. Assumes
 // nothing.
+#![tactic(auto)]
+
 mod clear;
 mod keys;
 pub mod layout;

@@ -2,6 +2,8 @@
 // again, and tries each flipped bit and each cut. A line of input has: a table's name, a label, a
 // pair's key in hex, the gate that opens and the other one, their tags in a talk, and a word in hex;
 // words of the table `whole` are also sealed again, flipped and cut.
+#![tactic(auto)]
+
 mod show;
 mod trials;
 

@@ -1,5 +1,0 @@
-use Rattle.agreement.proofs.Drafted.{drafts_sound}
-use Rattle.agreement.proofs.theorems.drafts_stated.Goals as goal
-
-pub returns : goal.returns
-returns c = drafts_sound

@@ -1,5 +1,0 @@
-use Rattle.agreement.proofs.Growing.{plans_sound}
-use Rattle.agreement.proofs.theorems.plans_stated.Goals as goal
-
-pub returns : goal.returns
-returns c = plans_sound

@@ -1,5 +1,0 @@
-pub mod Loads
-pub mod Posts
-pub mod Term
-pub mod Follow
-pub mod Queues

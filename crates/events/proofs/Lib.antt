@@ -1,2 +1,0 @@
-pub mod Outboxes
-pub mod Flows
