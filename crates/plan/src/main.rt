@@ -2,16 +2,19 @@
 // settings without its keys, and checks one.
 #![tactic(auto)]
 
+mod addresses;
+mod faults;
 mod showing;
+mod text;
 
 use anyhow::anyhow;
-use draft::{Draft, Name};
 use lines::encode;
-use settings::{DRAWN, MakeFault, Plan, Settings, make_all};
+use settings::{DRAWN, MakeFault, Plan, Settings, make_all, read};
 use showing::show;
 use std::fs::File;
 use std::io::{Read, Write};
 use std::{env, fs};
+use text::Draft;
 
 const USE: &str = "use: plan make PLAN FOLDER [DRAWN], plan show SETTINGS, plan check SETTINGS";
 
@@ -59,7 +62,7 @@ fn read_file(rt: &HostRuntime, path: &str) -> anyhow::Result<Vec<u8>> {
 // The settings in a file; those that are refused are named with what is wrong.
 fn read_settings(rt: &HostRuntime, path: &str) -> anyhow::Result<Settings> {
     let bytes = read_file(rt, path)?;
-    match settings::read(bytes.as_slice()) {
+    match read(bytes.as_slice()) {
         Ok(settings) => Ok(settings),
         Err(fault) => {
             let number = fault.refusal().number();
@@ -77,24 +80,25 @@ fn check(rt: &HostRuntime, path: &str) -> anyhow::Result<()> {
     Ok(())
 }
 
-// The plan in a file; the first line that is wrong is named.
+// The plan in a file, line by line; the first line that is wrong is named.
 fn read_plan(rt: &HostRuntime, path: &str) -> anyhow::Result<Draft> {
-    let content = match fs::read(rt, path) {
+    let content = match fs::read_to_string(rt, path) {
         Ok(content) => content,
         Err(why) => {
             eprintln!(rt; "plan: {path}: {why}")?;
             return Err(anyhow!("the plan can't be read"));
         }
     };
-    match draft::read(content.as_slice()) {
-        Ok(draft) => Ok(draft),
-        Err(wrong) => {
-            let line = wrong.line;
-            let fault = wrong.fault;
-            eprintln!(rt; "plan: {path}: line {line}: {fault}")?;
-            Err(anyhow!("the plan can't be read"))
+    let mut draft = Draft::new(rt.alloc());
+    let mut number = 0u64;
+    for line in content.as_str().lines() {
+        number = number.saturating_add(1);
+        if let Err(fault) = draft.take_line(rt.alloc(), line) {
+            eprintln!(rt; "plan: {path}: line {number}: {fault}")?;
+            return Err(anyhow!("the plan can't be read"));
         }
     }
+    Ok(draft)
 }
 
 // Drawn bytes for a plan: from a file that is given, or from the system.
@@ -123,19 +127,18 @@ fn make(rt: &HostRuntime, path: &str, folder: &String, from: Option<String>) -> 
         Err(MakeFault::WrongGates) => return Err(anyhow!("the plan has no gates, or too many")),
         Err(MakeFault::NoMemory) => return Err(anyhow!("there is no memory")),
     };
-    for settings in all.iter() {
-        let name = draft.name(settings.own());
+    for (settings, name) in all.iter().zip(draft.names.iter()) {
         if folder.as_str() == "-" {
-            print_one(rt, name, settings)?;
+            print_one(rt, name.as_str(), settings)?;
         } else {
-            write_one(rt, folder.as_str(), name, settings)?;
+            write_one(rt, folder.as_str(), name.as_str(), settings)?;
         }
     }
     Ok(())
 }
 
 // Prints the settings of one gate as a line of hex.
-fn print_one(rt: &HostRuntime, name: Name, settings: &Settings) -> anyhow::Result<()> {
+fn print_one(rt: &HostRuntime, name: &str, settings: &Settings) -> anyhow::Result<()> {
     let bytes = settings.write(rt.alloc())?;
     let mut line = encode(rt.alloc(), bytes.as_slice())?;
     line.push(b'\n')?;
@@ -149,7 +152,7 @@ fn print_one(rt: &HostRuntime, name: Name, settings: &Settings) -> anyhow::Resul
 fn write_one(
     rt: &HostRuntime,
     folder: &str,
-    name: Name,
+    name: &str,
     settings: &Settings,
 ) -> anyhow::Result<()> {
     let bytes = settings.write(rt.alloc())?;
