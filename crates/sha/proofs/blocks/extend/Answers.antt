@@ -15,7 +15,7 @@ loop-n-preserved c =
     let n = c.loop-n.n in
     let w = c.args.w.now in
     let count : 8 * n + 4 + 4 ≡ 8 * (n + 1) = omega arith in
-    c.extend-four-in-loop-n.ensures ∙ ap (λ x. four_words (20 + 8 * n) x) (c.extend-four.ensures ∙ ap (λ x. four_words (16 + 8 * n) x) c.loop-n.invariant)
+    c.extend_four-in-loop-n.ensures ∙ ap (λ x. four_words (20 + 8 * n) x) (c.extend_four.ensures ∙ ap (λ x. four_words (16 + 8 * n) x) c.loop-n.invariant)
     ∙ sym (ap (λ k. extended k w) (sym count) ∙ extended-four (8 * n + 4) (20 + 8 * n) w (omega arith)
     ∙ ap (λ x. four_words (20 + 8 * n) x) (extended-four (8 * n) (16 + 8 * n) w (omega arith)))
 

@@ -16,9 +16,9 @@ loop-n-preserved c =
     let v = c.args.start in
     let count : 4 * n + 4 ≡ 4 * (n + 1) = omega arith in
     let third : 4 * n + 2 + 1 ≡ 4 * n + 3 = omega arith in
-    c.two-rounds-after.ensures
-    ∙ ap (λ k. round_at k w (round_at (4 * n + 2) w c.two-rounds-half.result)) third
-    ∙ ap (λ x. round_at (4 * n + 3) w (round_at (4 * n + 2) w x)) c.two-rounds-half.ensures
+    c.two_rounds-after.ensures
+    ∙ ap (λ k. round_at k w (round_at (4 * n + 2) w c.two_rounds-half.result)) third
+    ∙ ap (λ x. round_at (4 * n + 3) w (round_at (4 * n + 2) w x)) c.two_rounds-half.ensures
     ∙ ap (λ x. round_at (4 * n + 3) w (round_at (4 * n + 2) w (round_at (4 * n + 1) w (round_at (4 * n) w x)))) c.loop-n.invariant
     ∙ sym (rounds-four (4 * n) w v) ∙ ap (λ k. rounds k w v) count
 
