@@ -2,17 +2,17 @@ use Rattle.std.proofs.Common.{rules}
 use Rattle.addresses.specs.Dotted.{prefix_read}
 use Rattle.addresses.proofs.dotted.read_prefix.Goals as goal
 
-pub returns-in-default : goal.returns-in-default
+pub returns-in_default : goal.returns-in_default
 unfolding prefix_read
-returns-in-default c = search rules
+returns-in_default c = search rules
 
-pub returns-in-default-read-address : goal.returns-in-default-read-address
+pub returns-in_default-read_address : goal.returns-in_default-read_address
 unfolding prefix_read
-returns-in-default-read-address c = search rules
+returns-in_default-read_address c = search rules
 
-pub returns-in-default-read-number : goal.returns-in-default-read-number
+pub returns-in_default-read_number : goal.returns-in_default-read_number
 unfolding prefix_read
-returns-in-default-read-number c = search rules
+returns-in_default-read_number c = search rules
 
 pub returns : goal.returns
 unfolding prefix_read

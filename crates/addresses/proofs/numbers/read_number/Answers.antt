@@ -1,14 +1,14 @@
-use Rattle.std.proofs.Common.{◌≡◌, ◌+◌, ◌-◌, ◌*◌, ◌<◌, ◌≤◌, true, false, length, get_or, sym, ap, ◌∙◌, arith, rules}
+use Rattle.std.proofs.Common.{◌≡◌, true, false, get_or, sym, ◌∙◌, arith, rules}
 use Rattle.std.specs.Char.{is_ascii_digit}
-use Rattle.addresses.specs.Numbers.{digits_from, unfit, number_read}
+use Rattle.addresses.specs.Numbers.{unfit}
 use Rattle.addresses.proofs.Digits.{unfit-none, fit_is, digit_bad, digit_over, digit_more, digit_end}
 use Rattle.addresses.proofs.numbers.read_number.Goals as goal
 
-pub returns-then-is-unfit : goal.returns-then-is-unfit
-returns-then-is-unfit c = record { value = sym (unfit-none c.args.limit c.args.text.now (search rules)); within = tt }
+pub returns-then-is_unfit : goal.returns-then-is_unfit
+returns-then-is_unfit c = record { value = sym (unfit-none c.args.limit c.args.text.now (search rules)); within = tt }
 
-pub returns-then-not-is-ascii-digit : goal.returns-then-not-is-ascii-digit
-returns-then-not-is-ascii-digit c =
+pub returns-then-not-is_ascii_digit : goal.returns-then-not-is_ascii_digit
+returns-then-not-is_ascii_digit c =
     let ok : unfit c.args.text.now ≡ false = search rules in
     let bad : is_ascii_digit (get_or c.args.text.now c.loop-digit.digit-index 0) ≡ false = search rules in
     record {
