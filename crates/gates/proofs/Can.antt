@@ -1,11 +1,11 @@
 -- It always can: from every world a hello of a new tick and its reply give a talk, and what is then put in comes out. Assumes nothing.
-use Rattle.std.proofs.Common.{◌≡◌, ℕ, zero, suc, ◌+◌, ◌<◌, ◌≤◌, Bool, true, false, cond, not, ◌&&◌, ◌||◌, eqb, ltb, leb, List, [], ◌∷◌, ◌++◌, length, sym, refl, ap, ◌∙◌, subst, append_assoc, arith}
+use Rattle.std.proofs.Common.{◌≡◌, ℕ, suc, ◌+◌, ◌<◌, ◌≤◌, true, false, not, ◌&&◌, ◌||◌, eqb, ltb, leb, List, [], ◌∷◌, ◌++◌, length, sym, refl, ap, ◌∙◌, subst, append_assoc, arith}
 use mathlib.Core.List.Memᴰ
 use Rattle.std.proofs.lemmas.Bool.{cond-true, cond-false, and_from, and_parts, or_left, or_from, eq-eqb, ne_eqb, not_from_false, not-true, lt-ltb, le-leb}
 use Rattle.gates.specs.Lists.{In, At}
 use Rattle.gates.specs.Talk.{Inner, Rules, Talk, is_in, new_talk, lives, may_come, may_send, sent_one}
-use Rattle.gates.specs.World.{Word, Hello, Reply, Packet, Wait, Gate, Note, World, Ev, Tick, Greets, Puts, Brings, Found, This}
-use Rattle.gates.specs.World.{changed, is_new, for_sending, is_talk, comes_in, change, waits_for, with_talks, note, becomes, emits, takes, taken, brings, brings_nth, sends, step, world}
+use Rattle.gates.specs.World.{Hello, Reply, Packet, Gate, World, Ev, Tick, Greets, Puts, Brings, This}
+use Rattle.gates.specs.World.{changed, is_new, for_sending, is_talk, comes_in, change, waits_for, with_talks, note, becomes, emits, takes, taken, sends, step, world}
 use Rattle.gates.specs.Promise.{greeting, put_all, passing}
 use Rattle.gates.proofs.Invariant.{Inv}
 use Rattle.gates.proofs.Nets.{brings-at}

@@ -1,7 +1,7 @@
 -- What holds of every world that events make: who drew each tag, what each word has behind it, and what each gate remembers of them. Assumes nothing.
-use Rattle.std.proofs.Common.{◌≡◌, ℕ, zero, suc, ◌+◌, ◌<◌, ◌≤◌, Bool, true, false, ◌⊎◌, List, [], ◌∷◌, ◌++◌, sym, refl, ap, ◌∙◌, subst, inl, inr, ⊎_elim, le_trans}
-use Rattle.gates.specs.Lists.{In, At}
-use Rattle.gates.specs.Talk.{Inner, Rules, Talk, is_in}
+use Rattle.std.proofs.Common.{◌≡◌, ℕ, ◌<◌, ◌≤◌, true, List, sym, refl, ap, ◌∙◌, subst, le_trans}
+use Rattle.gates.specs.Lists.{In}
+use Rattle.gates.specs.Talk.{Rules, Talk, is_in}
 use Rattle.gates.specs.World.{Word, Hello, Reply, Packet, Empty, Wait, Gate, Note, World, note}
 use Rattle.gates.specs.Promise.{by_of}
 use Rattle.gates.proofs.Lists.{Each, Distinct, distinct_same}

@@ -1,5 +1,5 @@
 -- What holds of each entry of a list, and lists whose entries are apart from one another under a relation. Assumes nothing.
-use Rattle.std.proofs.Common.{◌≡◌, ℕ, zero, suc, ◌⊎◌, List, [], ◌∷◌, ◌++◌, sym, refl, ap, ◌∙◌, subst, inl, inr, ⊎_elim}
+use Rattle.std.proofs.Common.{◌≡◌, ℕ, zero, suc, List, [], ◌∷◌, sym, refl, ap, ◌∙◌, subst, ⊎_elim}
 use mathlib.Core.List.{Memᴰ}
 use mathlib.Core.List.Memᴰ
 use Rattle.gates.specs.Lists.{In, At}

@@ -1,13 +1,13 @@
 -- How a gate's memory stays true while the net and what came out grow, and while its own talks and waiting hellos change. Assumes nothing.
-use Rattle.std.proofs.Common.{◌≡◌, ℕ, zero, suc, ◌+◌, ◌<◌, ◌≤◌, Bool, true, false, cond, ◌||◌, eqb, ◌⊎◌, List, [], ◌∷◌, ◌++◌, sym, refl, ap, ◌∙◌, subst, inl, inr, ⊎_elim, arith}
+use Rattle.std.proofs.Common.{◌≡◌, ℕ, suc, ◌≤◌, eqb, List, ◌∷◌, ◌++◌, sym, refl, ◌∙◌, subst, ⊎_elim, arith}
 use mathlib.Core.List.Memᴰ
-use Rattle.std.proofs.lemmas.Bool.{eqb-true, eqb-false, cond_both, or_left, or_right, eq-eqb, both_ways, and_parts, not-true}
-use Rattle.gates.specs.Lists.{In, At}
-use Rattle.gates.specs.Talk.{Inner, Rules, Talk, is_in, came, sent_one}
-use Rattle.gates.specs.World.{Word, Hello, Reply, Packet, Empty, Wait, Gate, Note, World, changed, change, with_talks}
-use Rattle.gates.proofs.Lists.{Each, each_cons, Distinct, distinct_cons, distinct_same}
+use Rattle.std.proofs.lemmas.Bool.{eqb-true, eqb-false, cond_both, or_left, or_right, eq-eqb}
+use Rattle.gates.specs.Lists.{In}
+use Rattle.gates.specs.Talk.{Talk, is_in, came, sent_one}
+use Rattle.gates.specs.World.{Word, Wait, Gate, Note, changed, change, with_talks}
+use Rattle.gates.proofs.Lists.{Distinct, distinct_same}
 use Rattle.gates.proofs.Talks.{SameTag, each_change, change-from, distinct_change}
-use Rattle.gates.proofs.Invariant.{Draws, Uses, Origin, Drew, Had, Waiting, Memory, Kept, Owned, Inv, packet_for, origin_grows, origin_drew, origin_other, one_drawer, drew-drawn, uses_origin}
+use Rattle.gates.proofs.Invariant.{Uses, Had, Waiting, Memory, origin_grows}
 
 -- what holds of a function that was changed at one place
 pub changed_both : {A : Type 0} (P : A → Type 0) (a : ℕ) (x : A) (f : ℕ → A) (j : ℕ) → (j ≡ a → P x) → ((j ≡ a → ⊥) → P (f j)) → P (changed a x f j)

@@ -1,11 +1,11 @@
 -- Which words each event adds to the net, and what bringing a word does. Assumes nothing.
-use Rattle.std.proofs.Common.{◌≡◌, ℕ, zero, suc, ◌+◌, ◌<◌, ◌≤◌, Bool, true, false, cond, not, ◌&&◌, ◌||◌, eqb, ◌⊎◌, List, [], ◌∷◌, ◌++◌, length, sym, refl, ap, ◌∙◌, subst, inl, inr, ⊎_elim, le_of_suc-le-suc, arith}
+use Rattle.std.proofs.Common.{◌≡◌, ℕ, zero, suc, ◌<◌, ◌≤◌, true, false, not, ◌&&◌, eqb, List, [], ◌∷◌, ◌++◌, length, sym, refl, ap, ◌∙◌, subst, le_of_suc-le-suc, arith}
 use Rattle.std.proofs.lemmas.Bool.{cond_both, cond-true, cond-false, and_parts, or_parts, eqb-true, eq-eqb, both_ways}
-use Rattle.gates.specs.Lists.{In, At}
-use Rattle.gates.specs.Talk.{Inner, Rules, Talk, may_send}
-use Rattle.gates.specs.World.{Word, Hello, Reply, Packet, Empty, Note, World, Ev, Tick, Greets, Puts, Lies, Brings, Restarts, Drops, Stays, Found, NoTalk, This}
-use Rattle.gates.specs.World.{is_new, start, note, takes, taken, brings, brings_nth, sends, stays, step, world, for_sending, by_mine}
-use Rattle.gates.specs.Promise.{lied, GreetsBelow, note_of, NoDelivery, Taking, AllTaking}
+use Rattle.gates.specs.Lists.{At}
+use Rattle.gates.specs.Talk.{Inner, Rules, may_send}
+use Rattle.gates.specs.World.{Word, Hello, Reply, Packet, Empty, World, Ev, Tick, Greets, Puts, Lies, Brings, Restarts, Drops, Stays, Found, NoTalk, This}
+use Rattle.gates.specs.World.{is_new, takes, taken, brings, brings_nth, sends, stays, step, world, for_sending, by_mine}
+use Rattle.gates.specs.Promise.{lied, GreetsBelow, note_of, NoDelivery, AllTaking}
 use Rattle.gates.proofs.Lists.{Each, each_none, each_cons}
 use Rattle.gates.proofs.Talks.{Finds, for_sending_lem}
 

@@ -1,14 +1,13 @@
 -- Tags, pairs, numbers and words, read off where each talk and each word comes from. Assumes nothing.
-use Rattle.std.proofs.Common.{◌≡◌, ℕ, zero, suc, ◌+◌, ◌<◌, ◌≤◌, Bool, true, false, cond, not, ◌&&◌, ◌||◌, ◌⊎◌, List, [], ◌∷◌, ◌++◌, sym, refl, ap, ◌∙◌, subst, inl, inr, ⊎_elim, arith}
-use Rattle.std.proofs.lemmas.Bool.{cond_both}
+use Rattle.std.proofs.Common.{◌≡◌, ℕ, ◌<◌, sym, refl, ◌∙◌, subst, arith}
 use Rattle.gates.specs.Lists.{In, At}
-use Rattle.gates.specs.Talk.{Inner, Rules, Talk, may_send}
-use Rattle.gates.specs.World.{Word, Hello, Reply, Packet, Empty, Note, World, Ev, Tick, Greets, Puts, Lies, Brings, Restarts, Drops, Stays, Found, NoTalk, This}
-use Rattle.gates.specs.World.{note, emits, takes, taken, brings, brings_nth, sends, stays, step, world, for_sending, by_mine}
-use Rattle.gates.specs.Promise.{Apart, Proper, by_of, for_of, NoZero, OfTalk, GreetsBelow, AllApart, AllProper}
-use Rattle.gates.proofs.Lists.{Each, each_none, each_cons, Distinct, distinct_place, at_in, in-at}
+use Rattle.gates.specs.Talk.{Rules, Talk}
+use Rattle.gates.specs.World.{Word, Hello, Reply, Packet, Empty, World}
+use Rattle.gates.specs.World.{world}
+use Rattle.gates.specs.Promise.{by_of, for_of, NoZero, OfTalk, AllApart, AllProper}
+use Rattle.gates.proofs.Lists.{distinct_place, at_in}
 use Rattle.gates.proofs.Talks.{SameTag}
-use Rattle.gates.proofs.Invariant.{Draws, Answers, Uses, SameDraw, SameUse, SameNote, Origin, answered, greeted, Drew, Sound, packet_of, Kept, Inv}
+use Rattle.gates.proofs.Invariant.{Draws, Uses, SameDraw, SameUse, SameNote, Origin, answered, greeted, Drew, Sound, packet_of, Inv}
 use Rattle.gates.proofs.Invariant.{one-draw, one_answer, one_drawer, origin_drew, origin_other}
 use Rattle.gates.proofs.Steps.{inv}
 use Rattle.gates.proofs.Nets.{hellos-below}

@@ -1,10 +1,10 @@
 -- Gates that run code of the form asked for, and a net, do nothing but runs of the abstract protocol. Assumes nothing.
-use Rattle.std.proofs.Common.{◌≡◌, ℕ, zero, suc, ◌+◌, ◌<◌, Bool, true, false, cond, not, ◌&&◌, ◌||◌, eqb, ◌⊎◌, List, [], ◌∷◌, ◌++◌, sym, refl, ap, ◌∙◌, subst, inl, inr, ⊎_elim}
+use Rattle.std.proofs.Common.{◌≡◌, ℕ, zero, suc, ◌<◌, false, not, ◌&&◌, eqb, ◌⊎◌, List, [], ◌∷◌, ◌++◌, sym, refl, ap, ◌∙◌, subst, inl, inr}
 use Rattle.std.proofs.lemmas.Bool.{cond_both, and_from, not_from_false, ne_eqb}
 use Rattle.gates.specs.Lists.{At}
-use Rattle.gates.specs.Talk.{Inner, Rules, Talk, is_in, may_send}
-use Rattle.gates.specs.World.{Word, Hello, Reply, Packet, Empty, Gate, Note, World, Ev, Tick, Greets, Puts, Lies, Brings, Restarts, Drops, Stays, Found, NoTalk, This}
-use Rattle.gates.specs.World.{changed, is_new, for_sending, by_mine, takes, taken, brings_nth, sends, stays, step, world}
+use Rattle.gates.specs.Talk.{Inner, Rules, is_in, may_send}
+use Rattle.gates.specs.World.{Word, Hello, Reply, Packet, Empty, Gate, World, Ev, Tick, Greets, Puts, Lies, Brings, Restarts, Drops, Stays, Found, NoTalk, This}
+use Rattle.gates.specs.World.{is_new, for_sending, by_mine, takes, taken, brings_nth, sends, stays, step, world}
 use Rattle.gates.specs.Promise.{lied, GreetsBelow}
 use Rattle.gates.specs.Code.{Did, OfGate, AllOfGate, AllNew, Follows, Shape, Code, Field, Act, Asks, Brought, did, brings_to, play, NewIn, Fair, Plays, Keeps}
 use Rattle.gates.proofs.Memories.{changed_both}

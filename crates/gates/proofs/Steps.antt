@@ -1,15 +1,15 @@
 -- Each event keeps what holds of every world; so it holds of every run. Assumes nothing.
-use Rattle.std.proofs.Common.{◌≡◌, ℕ, zero, suc, ◌+◌, ◌<◌, ◌≤◌, Bool, true, false, cond, not, ◌&&◌, ◌||◌, eqb, ltb, leb, ◌⊎◌, List, [], ◌∷◌, ◌++◌, sym, refl, ap, ◌∙◌, subst, inl, inr, ⊎_elim, le_trans, le_refl, arith}
+use Rattle.std.proofs.Common.{◌≡◌, ℕ, zero, suc, ◌+◌, ◌<◌, ◌≤◌, true, false, not, ◌&&◌, eqb, ltb, List, [], ◌∷◌, ◌++◌, sym, refl, ap, ◌∙◌, subst, ⊎_elim, le_trans, le_refl, arith}
 use mathlib.Core.List.Memᴰ
 use Rattle.std.proofs.lemmas.Bool.{eqb-true, eqb-false, ltb-true, cond_both, or_left, or_right, eq-eqb, both_ways, and_parts, not-true}
-use Rattle.gates.specs.Lists.{In, At}
+use Rattle.gates.specs.Lists.{In}
 use Rattle.gates.specs.Talk.{Inner, Rules, Talk, is_in, new_talk, lives, may_come, came, may_send, sent_one}
 use Rattle.gates.specs.World.{Word, Hello, Reply, Packet, Empty, Wait, Gate, Note, World, Ev, Tick, Greets, Puts, Lies, Brings, Restarts, Drops, Stays, Found, NoTalk, This}
-use Rattle.gates.specs.World.{changed, empty_gate, start, is_new, for_sending, by_mine, is_talk, comes_in, change, without_talk, waits_for, without_wait, with_talks, note, becomes, emits, hears, takes, taken, brings, brings_nth, sends, stays, step, world}
-use Rattle.gates.specs.Promise.{by_of, OfTalk}
-use Rattle.gates.proofs.Lists.{Each, each_none, each_cons, Distinct, distinct_none, distinct_cons, distinct_same}
+use Rattle.gates.specs.World.{changed, start, is_new, is_talk, comes_in, change, without_talk, waits_for, without_wait, with_talks, note, becomes, emits, hears, takes, taken, brings, brings_nth, sends, stays, step, world}
+use Rattle.gates.specs.Promise.{by_of}
+use Rattle.gates.proofs.Lists.{Each, each_none, each_cons, Distinct, distinct_none, distinct_cons}
 use Rattle.gates.proofs.Talks.{SameTag, Finds, for_sending_lem, by_mine_lem, comes_in_lem, is_talk_lem, without_talk_lem, distinct_without, waits_for_lem, without_wait_lem}
-use Rattle.gates.proofs.Invariant.{Draws, Answers, Uses, SameDraw, SameAnswer, SameUse, SameNote, Origin, answered, greeted, Drew, Sound, packet_of, packet_for, Owned, Had, Waiting, Memory, Kept, Inv, Grows}
+use Rattle.gates.proofs.Invariant.{Draws, Answers, Uses, SameDraw, SameAnswer, SameUse, SameNote, answered, greeted, Drew, Sound, packet_of, packet_for, Owned, Had, Waiting, Memory, Inv, Grows}
 use Rattle.gates.proofs.Invariant.{origin_grows, sound_grows, one-draw, one_drawer, origin_drew, drew-drawn, origin_other, uses_origin}
 use Rattle.gates.proofs.Memories.{changed_both, had_net, waiting-net, memory_net, memory_out, memory_fewer, memory_sent, memory_came}
 

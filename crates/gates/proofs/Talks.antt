@@ -1,11 +1,11 @@
 -- What a gate's lists of talks and of waiting hellos hold after one was looked up, changed or taken away. Assumes nothing.
-use Rattle.std.proofs.Common.{◌≡◌, ℕ, zero, suc, ◌+◌, Bool, true, false, cond, not, ◌&&◌, ◌||◌, eqb, ltb, leb, ◌⊎◌, List, [], ◌∷◌, ◌++◌, sym, refl, ap, ◌∙◌, subst, inl, inr, ⊎_elim}
+use Rattle.std.proofs.Common.{◌≡◌, ℕ, ◌+◌, Bool, true, false, cond, ◌&&◌, eqb, leb, List, [], ◌∷◌, ◌++◌, sym, refl, ap, ◌∙◌, subst, ⊎_elim}
 use mathlib.Core.List.Memᴰ
 use Rattle.std.proofs.lemmas.Bool.{eqb-true, eqb-false, and_parts, or_cases, eq-eqb, ne_eqb, cond-true, cond-false}
-use Rattle.gates.specs.Lists.{In, At}
+use Rattle.gates.specs.Lists.{In}
 use Rattle.gates.specs.Talk.{Rules, Talk, may_come, may_send}
 use Rattle.gates.specs.World.{Wait, Found, NoTalk, This, for_sending, by_mine, is_talk, comes_in, change, without_talk, waits_for, without_wait}
-use Rattle.gates.proofs.Lists.{Each, each_none, each_cons, Distinct, distinct_cons}
+use Rattle.gates.proofs.Lists.{Each, each_none, each_cons, Distinct}
 
 -- two talks with one own tag
 abbrev pub SameTag : Talk → Talk → Type 0

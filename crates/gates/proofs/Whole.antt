@@ -1,11 +1,11 @@
 -- The promise of the whole, from what holds of every world. Assumes nothing.
-use Rattle.std.proofs.Common.{◌≡◌, ℕ, suc, ◌+◌, ◌<◌, ◌≤◌, Bool, true, false, cond, not, ◌&&◌, ◌||◌, eqb, List, [], ◌∷◌, ◌++◌, sym, refl, ap, ◌∙◌, subst}
+use Rattle.std.proofs.Common.{◌≡◌, ℕ, Bool, true, false, ◌&&◌, eqb, List, [], ◌∷◌, sym, refl, ap, ◌∙◌, subst}
 use Rattle.std.proofs.lemmas.Bool.{cond-true, cond-false, eq-eqb}
 use Rattle.gates.specs.Lists.{In, At}
 use Rattle.gates.specs.Talk.{Inner, Rules, Talk, may_come, came}
-use Rattle.gates.specs.World.{Word, Packet, Gate, Note, World, Ev, Brings, is_talk, comes_in, change, with_talks, note, hears, takes, taken, step, world}
-use Rattle.gates.specs.Promise.{mirror, may_pass, LetOut, Whole, Main}
-use Rattle.gates.proofs.Lists.{distinct_place, at_in}
+use Rattle.gates.specs.World.{Packet, Gate, Note, World, Ev, Brings, is_talk, comes_in, change, with_talks, note, hears, takes, world}
+use Rattle.gates.specs.Promise.{mirror, may_pass, LetOut, Main}
+use Rattle.gates.proofs.Lists.{distinct_place}
 use Rattle.gates.proofs.Talks.{is_talk_lem, comes_in_talk, comes_in_none, change_splits}
 use Rattle.gates.proofs.Invariant.{SameNote, packet_for, Inv}
 use Rattle.gates.proofs.Steps.{inv}

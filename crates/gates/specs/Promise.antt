@@ -3,7 +3,7 @@
 use Rattle.std.specs.Prelude.{◌≡◌, ℕ, suc, ◌<◌, ◌≤◌, Bool, true, false, ◌&&◌, ◌||◌, List, [], ◌∷◌, ◌++◌, length, ◌==◌, ◌≢◌}
 use Rattle.gates.specs.Lists.{In, At}
 use Rattle.gates.specs.Talk.{Inner, Rules, Talk, new_talk, may_come, came}
-use Rattle.gates.specs.World.{Word, Hello, Reply, Packet, Empty, Note, World, Ev, Tick, Greets, Puts, Lies, Brings, Restarts, Drops, Stays, is_new, is_talk, note, takes, step, world}
+use Rattle.gates.specs.World.{Word, Hello, Reply, Packet, Empty, Note, World, Ev, Tick, Greets, Puts, Lies, Brings, Restarts, Drops, Stays, is_new, is_talk, note, takes, world}
 
 -- The same packet under the same number in the same talk, seen from the talk's other side.
 abbrev pub mirror : Note → Note

@@ -1,9 +1,9 @@
 -- Closed runs, which the checker plays event by event: a packet comes out of a second gate; and the three incidents, in which nothing comes out that must not.
 -- Events stand latest first. Assumes nothing.
-use Rattle.std.specs.Prelude.{◌≡◌, ℕ, ◌/◌, List, [], ◌∷◌, ◌++◌}
+use Rattle.std.specs.Prelude.{◌≡◌, ◌/◌, List, [], ◌∷◌, ◌++◌}
 use Rattle.gates.specs.Lists.{At}
 use Rattle.gates.specs.Talk.{Inner, Rules}
-use Rattle.gates.specs.World.{Note, Packet, Ev, Tick, Greets, Puts, Lies, Brings, Restarts, note, world}
+use Rattle.gates.specs.World.{Note, Packet, Ev, Puts, Lies, Brings, Restarts, note, world}
 use Rattle.gates.specs.Promise.{greeting}
 
 -- Gate k owns the addresses from 10 * k to 10 * k + 9.

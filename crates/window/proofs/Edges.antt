@@ -1,8 +1,8 @@
 -- The table of edges, computed. Assumes nothing.
-use Rattle.std.proofs.Common.{◌≡◌, refl}
+use Rattle.std.proofs.Common.{refl}
 use Rattle.gates.specs.Talk.{is_in}
 use Rattle.window.specs.Edges.{Edges, Row, window_of, highest_of}
-use Rattle.window.specs.Heard.{verdict_of, is_marked, marked, cleared, raised, empty_window, look_bits, after_bits}
+use Rattle.window.specs.Heard.{cleared}
 
 pub edges : Edges
 unfolding Row window_of highest_of cleared is_in

@@ -1,5 +1,5 @@
 -- What a window says of numbers: by the list of all that came, by its bits, and when the two are of one history. Assumes nothing.
-use Rattle.std.specs.Prelude.{◌≡◌, ℕ, zero, suc, ◌+◌, ◌-◌, ◌*◌, ◌/◌, ◌%◌, ◌^◌, ◌<◌, ◌≤◌, min, Bool, true, false, cond, ◌&&◌, ◌||◌, List, [], ◌∷◌, length, set, replicate, ◌==◌, bit_and, bit_or, nat_le, nat_lt, slice_index, slice_set}
+use Rattle.std.specs.Prelude.{◌≡◌, ℕ, zero, suc, ◌+◌, ◌-◌, ◌*◌, ◌/◌, ◌%◌, ◌^◌, ◌<◌, ◌≤◌, min, Bool, true, false, cond, ◌&&◌, ◌||◌, List, length, replicate, ◌==◌, bit_and, bit_or, nat_le, nat_lt, slice_index, slice_set}
 use Rattle.gates.specs.Talk.{Rules, Talk, is_in, lives, may_come}
 use Rattle.window.specs.declared.state.Window.{Window}
 use Rattle.window.specs.declared.state.Verdict.{Verdict}

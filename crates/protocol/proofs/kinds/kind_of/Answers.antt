@@ -4,18 +4,18 @@ use Rattle.protocol.specs.Kinds.{kind_of, IsWord}
 use Rattle.protocol.proofs.Words.{kind_is, kind_none, none-refused, none-empty, first_byte, wrong_length, word_made}
 use Rattle.protocol.proofs.kinds.kind_of.Goals as goal
 
-pub returns-in-default : goal.returns-in-default
-returns-in-default c =
+pub returns-in_default : goal.returns-in_default
+returns-in_default c =
     let e : kind_of c.args.word.now ≡ Err UnknownWord = none-empty c.args.word.now (search rules) in
     record { value = sym e; kinds = (refl, none-refused c.args.word.now e) }
 
-pub returns-in-default-of-byte : goal.returns-in-default-of-byte
-returns-in-default-of-byte c =
-    let e : kind_of c.args.word.now ≡ Err UnknownWord = kind_none c.args.word.now (λ k is. c.in-default-of-byte.ensures k (first_byte k c.args.word.now is)) in
+pub returns-in_default-of_byte : goal.returns-in_default-of_byte
+returns-in_default-of_byte c =
+    let e : kind_of c.args.word.now ≡ Err UnknownWord = kind_none c.args.word.now (λ k is. c.in_default-of_byte.ensures k (first_byte k c.args.word.now is)) in
     record { value = sym e; kinds = (refl, none-refused c.args.word.now e) }
 
-pub returns-then-not-has-length : goal.returns-then-not-has-length
-returns-then-not-has-length c =
+pub returns-then-not-has_length : goal.returns-then-not-has_length
+returns-then-not-has_length c =
     let e : kind_of c.args.word.now ≡ Err UnknownWord = wrong_length c.in-Some.kind c.args.word.now (search rules) (search rules) in
     record { value = sym e; kinds = (refl, none-refused c.args.word.now e) }
 
