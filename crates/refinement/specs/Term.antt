@@ -1,5 +1,5 @@
 -- The gate's code as the abstract protocol asks for code: its shape, made of the definitions that the contracts cite, and that it is such code. Assumes nothing.
-use Rattle.std.specs.Prelude.{ℕ, ◌^◌, ◌<◌, ◌≤◌, List}
+use Rattle.std.specs.Prelude.{ℕ, ◌^◌, ◌<◌, ◌≤◌}
 use Rattle.gates.specs.Code.{Shape, Code, Keeps}
 use Rattle.gateway.specs.declared.state.Gateway.{Gateway}
 use Rattle.gateway.specs.Steps.{fresh}
