@@ -1,6 +1,6 @@
 -- What a hasher, a prepared key and a message code in the making stand for.
 -- Assumes nothing.
-use Rattle.std.specs.Prelude.{◌≡◌, ℕ, ◌+◌, ◌*◌, ◌^◌, ◌<◌, cond, List, ◌++◌, length, take, Ok, Err, Result, nat_lt}
+use Rattle.std.specs.Prelude.{◌≡◌, ℕ, ◌*◌, ◌^◌, ◌<◌, cond, List, ◌++◌, length, take, Ok, Err, Result, nat_lt}
 use Rattle.digest.specs.declared.state.Fault.{Fault}
 use Rattle.digest.specs.declared.state.Fault.TheVariants.{TooLong}
 use Rattle.digest.specs.declared.state.Hasher.{Hasher}

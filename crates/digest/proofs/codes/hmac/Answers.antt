@@ -8,7 +8,7 @@ pub returns : goal.returns
 returns c =
     let key = c.args.key.now in
     let m = c.args.message.now in
-    let was = c.in-ok-update.was in
+    let was = c.in_ok-update.was in
     let begun = c.begin-mac.ensures.taken key c.new.ensures in
     let sum : c.finish.result ≡ hmac key m = c.finish.ensures key m (c.update.ensures.taken key [] begun (ap is_ok was)) in
     let long : c.begin-mac.result.inner.total + length m ≡ 64 + length m = omega arith in

@@ -7,6 +7,6 @@ pub returns : goal.returns
 returns c =
     record {
       long = c.told-key;
-      inner = c.key-of.ensures.inner ∙ ap (λ b. compressed initial_hash b) (c.padded-key.ensures ∙ sym (inner_pad_lem c.args.key.now c.told-key));
-      outer = c.key-of.ensures.outer ∙ ap (λ b. compressed initial_hash b) (c.padded-key-2.ensures ∙ sym (outer_pad_lem c.args.key.now c.told-key));
+      inner = c.key_of.ensures.inner ∙ ap (λ b. compressed initial_hash b) (c.padded_key.ensures ∙ sym (inner_pad_lem c.args.key.now c.told-key));
+      outer = c.key_of.ensures.outer ∙ ap (λ b. compressed initial_hash b) (c.padded_key-2.ensures ∙ sym (outer_pad_lem c.args.key.now c.told-key));
     }

@@ -9,6 +9,6 @@ pub returns : goal.returns
 unfolding hmac
 returns c key m t =
     let sum : c.finish-sum.result ≡ sha256 (inner_pad key ++ m) = c.finish-sum.ensures (inner_pad key ++ m) t.inner in
-    let first = holds-first c.outer-hasher-outer.result (outer_pad key) (length-outer key t.long) (c.outer-hasher-outer.ensures.state ∙ t.outer) c.outer-hasher-outer.ensures.total in
+    let first = holds-first c.outer_hasher-outer.result (outer_pad key) (length-outer key t.long) (c.outer_hasher-outer.ensures.state ∙ t.outer) c.outer_hasher-outer.ensures.total in
     let both = c.absorb.ensures.holds (outer_pad key) first in
     c.finish.ensures (outer_pad key ++ c.finish-sum.result) both ∙ ap (λ s. sha256 (outer_pad key ++ s)) sum
