@@ -1,7 +1,7 @@
 -- Bytes as hex digits, and what hex digits stand for. Assumes nothing.
 use Rattle.std.specs.Prelude.{◌≡◌, ℕ, ◌+◌, ◌-◌, ◌*◌, ◌/◌, ◌%◌, ◌<◌, Bool, cond, ◌&&◌, ◌⊎◌, List, [], ◌∷◌, ◌++◌, Some, None, Ok, Err, vec_items, Option, Result, Vec, nat_le, nat_lt}
 use Rattle.std.specs.declared.alloc.Global.{Global}
-use Rattle.std.specs.List.{AllByRecursion as All}
+use Rattle.std.specs.List.{AllByRecursion}
 use Rattle.lines.specs.declared.faults.LineFault.{LineFault}
 use Rattle.lines.specs.declared.faults.LineFault.TheVariants.{NotHex, OddHex, NoMemory}
 
@@ -52,4 +52,4 @@ Decodes meant (Err e) = (e ≡ NoMemory) ⊎ (meant ≡ Err e)
 
 -- decoding what was encoded gives it back
 abbrev pub GivesBack : Type 0
-GivesBack = (column : ℕ) (bs : List ℕ) → All (λ b. b < 256) bs → decoded column (encoded bs) ≡ Ok bs
+GivesBack = (column : ℕ) (bs : List ℕ) → AllByRecursion (λ b. b < 256) bs → decoded column (encoded bs) ≡ Ok bs

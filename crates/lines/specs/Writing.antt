@@ -1,6 +1,6 @@
 -- The line of each event, and that it says that event. Assumes nothing.
 use Rattle.std.specs.Prelude.{◌≡◌, ℕ, ◌<◌, List, ◌∷◌, ◌++◌, length, Ok, codes}
-use Rattle.std.specs.List.{AllByRecursion as All}
+use Rattle.std.specs.List.{AllByRecursion}
 use Rattle.lines.specs.Hex.{encoded}
 use Rattle.lines.specs.Reading.{Said, line_says, trim_end}
 use Rattle.lines.specs.Reading.Said.{ticks, drawn, packet, word, falls}
@@ -19,7 +19,7 @@ line_of falls = codes "fall"
 
 -- bytes are below 256
 abbrev pub Bytes : List ℕ → Type 0
-Bytes bs = All (λ b. b < 256) bs
+Bytes bs = AllByRecursion (λ b. b < 256) bs
 
 -- what can be said: bytes are bytes, and some are drawn
 abbrev pub Sayable : Said → Type 0

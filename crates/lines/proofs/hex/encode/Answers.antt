@@ -1,4 +1,4 @@
-use Rattle.std.proofs.Common.{◌+◌, ◌++◌, vec_items, sym, ap, ◌∙◌, append-nil, arith}
+use Rattle.std.proofs.Common.{◌++◌, vec_items, sym, ap, ◌∙◌, append-nil, arith}
 use Rattle.std.proofs.lemmas.List.{drop_all}
 use Rattle.lines.specs.Hex.{encoded}
 use Rattle.lines.proofs.Digits.{byte_written}
@@ -6,8 +6,8 @@ use Rattle.lines.proofs.hex.encode.Goals as goal
 
 pub loop-b-preserved : goal.loop-b-preserved
 loop-b-preserved c =
-    let high = c.in-ok-push.ensures.items in
-    let low = c.in-ok-push-2.ensures.items in
+    let high = c.in_ok-push.ensures.items in
+    let low = c.in_ok-push-2.ensures.items in
     let wrote = byte_written (vec_items c.loop-b.text) c.loop-b.b-index c.args.bytes.now (omega arith) in
     cc
 

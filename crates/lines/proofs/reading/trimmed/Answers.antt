@@ -4,5 +4,5 @@ use Rattle.lines.proofs.reading.trimmed.Goals as goal
 
 pub returns : goal.returns
 returns c =
-    let told = c.trim-ascii-end.ensures.value in
+    let told = c.trim_ascii_end.ensures.value in
     told.1 ∙ trim_is c.args.line.now told.0 told.3 told.4 told.5
