@@ -11,8 +11,8 @@ returns c =
     let q = length-serialized c.args.q ∙ ap (λ n. 4 * n) c.fits-q.0 in
     let r = length-serialized c.args.r ∙ ap (λ n. 4 * n) c.fits-r.0 in
     let s = length-serialized c.args.s ∙ ap (λ n. 4 * n) c.fits-s.0 in
-    let second = c.put-state-2.ensures ∙ ap (λ out. put_mid 64 64 out (serialized c.args.q)) c.put-state.ensures in
-    let third = c.put-state-3.ensures ∙ ap (λ out. put_mid 128 64 out (serialized c.args.r)) second in
-    let fourth = c.put-state-4.ensures ∙ ap (λ out. put_mid 192 64 out (serialized c.args.s)) third in
-    c.put-state-5.ensures ∙ ap (λ out. put_mid 256 64 out (serialized c.args.t)) fourth
+    let second = c.put_state-2.ensures ∙ ap (λ out. put_mid 64 64 out (serialized c.args.q)) c.put_state.ensures in
+    let third = c.put_state-3.ensures ∙ ap (λ out. put_mid 128 64 out (serialized c.args.r)) second in
+    let fourth = c.put_state-4.ensures ∙ ap (λ out. put_mid 192 64 out (serialized c.args.s)) third in
+    c.put_state-5.ensures ∙ ap (λ out. put_mid 256 64 out (serialized c.args.t)) fourth
     ∙ put_five (replicate 320 0) (serialized c.args.p) (serialized c.args.q) (serialized c.args.r) (serialized c.args.s) (serialized c.args.t) (omega arith) p q r s

@@ -5,4 +5,4 @@ use Rattle.cipher.proofs.lanes.line_rows.Goals as goal
 
 pub returns : goal.returns
 unfolding line_sum line_turn add32
-returns c = record { sum = refl; turn = c.turn-lanes.ensures }
+returns c = record { sum = refl; turn = c.turn_lanes.ensures }

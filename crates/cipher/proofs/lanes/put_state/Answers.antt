@@ -8,4 +8,4 @@ returns c =
     let all : c.args.at + 64 - c.args.at ≡ 64 = omega arith in
     let long : length (mid_of c.args.at (c.args.at + 64 - c.args.at) c.args.out.now) ≡ c.args.at + 64 - c.args.at =
     length-chunk c.args.at (c.args.at + 64 - c.args.at) c.args.out.now (omega arith) in
-    ap₂ (λ k bytes. put_mid c.args.at k c.args.out.now bytes) all (put_chunk_whole _ c.state-bytes.result (omega arith) ∙ c.state-bytes.ensures)
+    ap₂ (λ k bytes. put_mid c.args.at k c.args.out.now bytes) all (put_chunk_whole _ c.state_bytes.result (omega arith) ∙ c.state_bytes.ensures)

@@ -8,4 +8,4 @@ unfolding word_bytes
 returns c =
     let four : 4 * c.args.i + 4 - 4 * c.args.i ≡ 4 = omega arith in
     ap₂ (λ k bytes. put_mid (4 * c.args.i) k c.args.out.now bytes) four
-    (c.copy-from-slice.ensures.after ∙ c.to-le-bytes.ensures)
+    (c.copy_from_slice.ensures.after ∙ c.to_le_bytes.ensures)

@@ -3,4 +3,4 @@ use Rattle.cipher.specs.ChaCha20.{inner_blocks}
 use Rattle.cipher.proofs.scalar.rounds.Given as goal
 
 abbrev pub invariant-loop-i : goal.invariant-loop-i
-invariant-loop-i l = l.s ≡ inner_blocks l.-i l.initial.s
+invariant-loop-i l = l.s ≡ inner_blocks l._i l.initial.s

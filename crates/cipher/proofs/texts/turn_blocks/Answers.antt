@@ -8,9 +8,9 @@ loop-j-preserved c =
     let j = c.loop-j.j in
     let stream : c.block-stream.result ≡ keystream c.args.key.now (c.args.counter + j) c.args.nonce.now 1 =
     cc (block-mod c.args.key.now (c.args.counter + j) c.args.nonce.now) in
-    text_more c.args.key.now c.args.counter c.args.nonce.now c.args.text.now c.loop-j.text c.xor-onto.new.part c.block-stream.result
+    text_more c.args.key.now c.args.counter c.args.nonce.now c.args.text.now c.loop-j.text c.xor_onto.new.part c.block-stream.result
     j 1 (64 * j) c.min-to.result (64 * (j + 1)) (j + 1)
-    c.loop-j.invariant stream c.xor-onto.ensures (omega arith) (omega arith) c.min-to.ensures (omega arith) (omega arith)
+    c.loop-j.invariant stream c.xor_onto.ensures (omega arith) (omega arith) c.min-to.ensures (omega arith) (omega arith)
 
 pub returns : goal.returns
 returns c =

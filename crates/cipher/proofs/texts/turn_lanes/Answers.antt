@@ -8,11 +8,11 @@ use Rattle.cipher.proofs.texts.turn_lanes.Goals as goal
 pub loop-j-preserved : goal.loop-j-preserved
 loop-j-preserved c =
     let j = c.loop-j.j in
-    let stream : c.five-blocks-stream.result ≡ keystream c.args.key.now (c.args.counter + 5 * j) c.args.nonce.now 5 =
-    cc (five_blocks c.args.key.now c.args.counter c.args.nonce.now (c.args.counter + 5 * j) _ c.counter-at.ensures) in
-    text_more c.args.key.now c.args.counter c.args.nonce.now c.args.text.now c.loop-j.text c.xor-onto.new.part
-    c.five-blocks-stream.result (5 * j) 5 (320 * j) c.min-to.result (320 * (j + 1)) (5 * (j + 1))
-    c.loop-j.invariant stream c.xor-onto.ensures (omega arith) (omega arith) c.min-to.ensures (omega arith) (omega arith)
+    let stream : c.five_blocks-stream.result ≡ keystream c.args.key.now (c.args.counter + 5 * j) c.args.nonce.now 5 =
+    cc (five_blocks c.args.key.now c.args.counter c.args.nonce.now (c.args.counter + 5 * j) c.counter_at.result (omega arith)) in
+    text_more c.args.key.now c.args.counter c.args.nonce.now c.args.text.now c.loop-j.text c.xor_onto.new.part
+    c.five_blocks-stream.result (5 * j) 5 (320 * j) c.min-to.result (320 * (j + 1)) (5 * (j + 1))
+    c.loop-j.invariant stream c.xor_onto.ensures (omega arith) (omega arith) c.min-to.ensures (omega arith) (omega arith)
 
 pub returns-then-rest-len : goal.returns-then-rest-len
 returns-then-rest-len c =
@@ -22,9 +22,9 @@ returns-then-rest-len c =
     let before : c.loop-j.text ≡ zip2 bit_xor (take (320 * fives) old) (keystream c.args.key.now c.args.counter c.args.nonce.now (5 * fives)) ++ drop (320 * fives) old = cc in
     let stream : c.block-stream.result ≡ keystream c.args.key.now (c.args.counter + 5 * fives) c.args.nonce.now 1 =
     cc (block-mod c.args.key.now (c.args.counter + 5 * fives) c.args.nonce.now) in
-    let after = text_more c.args.key.now c.args.counter c.args.nonce.now old c.loop-j.text c.xor-onto-then-rest-len.new.part
+    let after = text_more c.args.key.now c.args.counter c.args.nonce.now old c.loop-j.text c.xor_onto-then-rest-len.new.part
     c.block-stream.result (5 * fives) 1 (320 * fives) (length old) (320 * fives + 64) (5 * fives + 1)
-    before stream c.xor-onto-then-rest-len.ensures (omega arith) (omega arith) (omega arith) (omega arith) (omega arith) in
+    before stream c.xor_onto-then-rest-len.ensures (omega arith) (omega arith) (omega arith) (omega arith) (omega arith) in
     text-all c.args.key.now c.args.counter c.args.nonce.now old _ (5 * fives + 1) (320 * fives + 64) after (omega arith) (omega arith)
 
 pub returns-else-rest-len : goal.returns-else-rest-len
