@@ -1,5 +1,5 @@
 -- The table, computed. Assumes nothing.
-use Rattle.std.proofs.Common.{◌≡◌, refl}
+use Rattle.std.proofs.Common.{refl}
 use Rattle.window.specs.Heard.{cleared}
 use Rattle.gateway.specs.Slots.{first_that, replaced}
 use Rattle.cases.specs.Cases.{Cases, played, end}

@@ -1,6 +1,10 @@
 // Rows in words, for people; and whether two answers are the same. Assumes nothing.
+ghost use Rattle.std.specs.Prelude.{◌≡◌, ◌==◌};
+ghost use Rattle.std.specs.Cmp.Lexicographic.{pointwise};
 ghost use Rattle.std.specs.Cmp.Rules.{comparing};
+ghost use Rattle.std.specs.Ordering.{on};
 ghost use Rattle.std.proofs.Common.{rules};
+ghost use Rattle.cases.specs.Same.{word_numbers, said_numbers};
 
 use crate::rows::{Event, Row, Said, Side, Tags};
 use gateway::Word;
@@ -91,7 +95,9 @@ fn fmt_refusal<W: fmt::Write>(number: u8, f: &mut fmt::Formatter<W>) -> fmt::Res
 }
 
 /// All that a word says, in numbers: its kind first.
-fn numbers(word: Word) -> [u64; 8] {
+fn numbers(word: Word) -> [u64; 8]
+    ensures { result ≡ word_numbers word }
+{
     match word {
         Word::Hello { by, to, tag, at } => [1, u64::from(by), u64::from(to), tag, at, 0, 0, 0],
         Word::Reply {
@@ -138,6 +144,8 @@ fn numbers(word: Word) -> [u64; 8] {
 }
 
 impl PartialEq for Said {
+    ghost eq = { on said_numbers (pointwise ◌==◌) };
+
     ghost laws = { Prim.search (comparing, rules) };
 
     fn eq(&self, other: &Said) -> bool {
