@@ -2,7 +2,7 @@
 ghost use Rattle.std.specs.Prelude.{◌≡◌, ◌+◌, ◌*◌, ◌<◌, length};
 ghost use Rattle.std.specs.Simd.Lanes.{zip2};
 ghost use borrow.Rule.Slice.PartMut.{put_mid};
-ghost use Rattle.cipher.specs.ChaCha20.{add32, add_word, turn_word, line, column_round, diagonal_round, inner_blocks, word_at, start_state, word_bytes, serialized, block as Block-of};
+ghost use Rattle.cipher.specs.ChaCha20.{add32, add_word, turn_word, line, quarter_round, column_round, diagonal_round, inner_blocks, word_at, start_state, word_bytes, serialized, block as Block-of};
 
 // `a += b` on the words at places a and b.
 fn add_word(s: &mut [u32; 16], a: usize, b: usize)
@@ -32,7 +32,7 @@ fn quarter_line(s: &mut [u32; 16], a: usize, b: usize, d: usize, n: u32)
 // The quarter round on the words at four places.
 fn quarter_round(s: &mut [u32; 16], a: usize, b: usize, c: usize, d: usize)
     requires { (a < 16) × ((b < 16) × ((c < 16) × (d < 16))) }
-    ensures { s.new ≡ line c d b 7 (line a b d 8 (line c d b 12 (line a b d 16 s.old))) }
+    ensures { s.new ≡ quarter_round a b c d s.old }
 {
     quarter_line(s, a, b, d, 16);
     quarter_line(s, c, d, b, 12);

@@ -1,6 +1,6 @@
 // HMAC-SHA-256 under a 32-byte key, of a message that comes in parts.
 ghost use Rattle.std.specs.Prelude.{◌≡◌, ℕ, ◌+◌, true, false, List, [], ◌++◌, map, length, replicate, is_ok, if◌then◌else◌, bit_xor};
-ghost use Rattle.digest.specs.Hashers.{Prepared, Taken, limited};
+ghost use Rattle.digest.specs.Hashers.{Holds, Prepared, Taken, limited};
 ghost use Rattle.digest.specs.Hmac.{hmac as hmac-of};
 ghost use Rattle.digest.specs.Sha256.{initial_hash, compressed};
 
@@ -32,6 +32,7 @@ fn hashed_block(block: &[u8; 64]) -> [u32; 8]
 fn resumed(state: [u32; 8]) -> Hasher
     ensures state { result.state ≡ state }
     ensures total { result.total ≡ 64 }
+    ensures holds { (block : List ℕ) → length block ≡ 64 → state ≡ compressed initial_hash block → Holds result block }
 {
     Hasher {
         state,

@@ -1,6 +1,6 @@
-use Rattle.cipher.specs.ChaCha20.{quarter_round, diagonal_round}
+use Rattle.cipher.specs.ChaCha20.{diagonal_round}
 use Rattle.cipher.proofs.scalar.diagonal_round.Goals as goal
 
 pub returns : goal.returns
-unfolding quarter_round diagonal_round
+unfolding diagonal_round
 returns c = cc
