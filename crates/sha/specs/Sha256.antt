@@ -1,7 +1,6 @@
 -- SHA-256 as RFC 6234 defines it, in the RFC's order: bytes and 32-bit words are numbers, and messages, blocks and hash values are lists of them.
 -- Assumes nothing.
-use Rattle.std.specs.Prelude.{ℕ, zero, suc, ◌+◌, ◌-◌, ◌*◌, ◌/◌, ◌%◌, ◌^◌, List, [], ◌∷◌, ◌++◌, length, get_or, set, take, drop, replicate}
-use Rattle.std.specs.Int.Bits.{bit_and, bit_or, bit_xor}
+use Rattle.std.specs.Prelude.{ℕ, zero, suc, ◌+◌, ◌-◌, ◌*◌, ◌/◌, ◌%◌, ◌^◌, List, [], ◌∷◌, ◌++◌, length, take, drop, replicate, bit_and, bit_or, bit_xor, slice_index, slice_set}
 
 -- 3, 2c: the sum of two words, modulo 2^32.
 unfoldable pub add32 : ℕ → ℕ → ℕ
@@ -80,17 +79,17 @@ initial_hash = 0x6a09e667 ∷ 0xbb67ae85 ∷ 0x3c6ef372 ∷ 0xa54ff53a ∷ 0x510
 -- 2: the t-th word of a block, its bytes high one first.
 unfoldable pub word_at : List ℕ → ℕ → ℕ
 word_at block t =
-    get_or block (4 * t) 0 * 16777216 + get_or block (4 * t + 1) 0 * 65536 + get_or block (4 * t + 2) 0 * 256 + get_or block (4 * t + 3) 0
+    slice_index block (4 * t) * 16777216 + slice_index block (4 * t + 1) * 65536 + slice_index block (4 * t + 2) * 256 + slice_index block (4 * t + 3)
 
 -- 6.2, step 1: Wt of the message schedule, from the words before it.
 unfoldable pub next_word : ℕ → List ℕ → List ℕ
 next_word t w =
-    set w t (add32 (add32 (add32 (ssig1 (get_or w (t - 2) 0)) (get_or w (t - 7) 0)) (ssig0 (get_or w (t - 15) 0))) (get_or w (t - 16) 0))
+    slice_set w t (add32 (add32 (add32 (ssig1 (slice_index w (t - 2))) (slice_index w (t - 7))) (ssig0 (slice_index w (t - 15)))) (slice_index w (t - 16)))
 
 -- 6.2, step 1: the first n words of the message schedule are the block's.
 unfoldable pub block_words : ℕ → List ℕ → List ℕ
 block_words zero block = replicate 64 0
-block_words (suc t) block = set (block_words t block) t (word_at block t)
+block_words (suc t) block = slice_set (block_words t block) t (word_at block t)
 
 -- 6.2, step 1: n words more, from W16 on.
 unfoldable pub extended : ℕ → List ℕ → List ℕ
@@ -103,21 +102,21 @@ schedule block = extended 48 (block_words 16 block)
 
 -- 6.2, step 3: T1, from the working variables, Kt and Wt.
 unfoldable pub temp1 : List ℕ → ℕ → ℕ → ℕ
-temp1 v k w = add32 (add32 (add32 (add32 (get_or v 7 0) (bsig1 (get_or v 4 0))) (ch (get_or v 4 0) (get_or v 5 0) (get_or v 6 0))) k) w
+temp1 v k w = add32 (add32 (add32 (add32 (slice_index v 7) (bsig1 (slice_index v 4))) (ch (slice_index v 4) (slice_index v 5) (slice_index v 6))) k) w
 
 -- 6.2, step 3: T2, from the working variables.
 unfoldable pub temp2 : List ℕ → ℕ
-temp2 v = add32 (bsig0 (get_or v 0 0)) (maj (get_or v 0 0) (get_or v 1 0) (get_or v 2 0))
+temp2 v = add32 (bsig0 (slice_index v 0)) (maj (slice_index v 0) (slice_index v 1) (slice_index v 2))
 
 -- 6.2, step 3: the working variables a to h after one round.
 unfoldable pub round : List ℕ → ℕ → ℕ → List ℕ
 round v k w =
-    add32 (temp1 v k w) (temp2 v) ∷ get_or v 0 0 ∷ get_or v 1 0 ∷ get_or v 2 0
-    ∷ add32 (get_or v 3 0) (temp1 v k w) ∷ get_or v 4 0 ∷ get_or v 5 0 ∷ get_or v 6 0 ∷ []
+    add32 (temp1 v k w) (temp2 v) ∷ slice_index v 0 ∷ slice_index v 1 ∷ slice_index v 2
+    ∷ add32 (slice_index v 3) (temp1 v k w) ∷ slice_index v 4 ∷ slice_index v 5 ∷ slice_index v 6 ∷ []
 
 -- 6.2, step 3: round t of a message schedule.
 unfoldable pub round_at : ℕ → List ℕ → List ℕ → List ℕ
-round_at t w v = round v (get_or round_constants t 0) (get_or w t 0)
+round_at t w v = round v (slice_index round_constants t) (slice_index w t)
 
 -- 6.2, step 3: rounds 0 to n - 1.
 unfoldable pub rounds : ℕ → List ℕ → List ℕ → List ℕ
@@ -127,8 +126,8 @@ rounds (suc t) w v = round_at t w (rounds t w v)
 -- 6.2, step 4: the working variables added to the hash value.
 unfoldable pub sums : List ℕ → List ℕ → List ℕ
 sums h v =
-    add32 (get_or v 0 0) (get_or h 0 0) ∷ add32 (get_or v 1 0) (get_or h 1 0) ∷ add32 (get_or v 2 0) (get_or h 2 0) ∷ add32 (get_or v 3 0) (get_or h 3 0)
-    ∷ add32 (get_or v 4 0) (get_or h 4 0) ∷ add32 (get_or v 5 0) (get_or h 5 0) ∷ add32 (get_or v 6 0) (get_or h 6 0) ∷ add32 (get_or v 7 0) (get_or h 7 0) ∷ []
+    add32 (slice_index v 0) (slice_index h 0) ∷ add32 (slice_index v 1) (slice_index h 1) ∷ add32 (slice_index v 2) (slice_index h 2) ∷ add32 (slice_index v 3) (slice_index h 3)
+    ∷ add32 (slice_index v 4) (slice_index h 4) ∷ add32 (slice_index v 5) (slice_index h 5) ∷ add32 (slice_index v 6) (slice_index h 6) ∷ add32 (slice_index v 7) (slice_index h 7) ∷ []
 
 -- 6.2: the hash value after one more block.
 unfoldable pub compressed : List ℕ → List ℕ → List ℕ
