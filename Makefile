@@ -5,13 +5,14 @@
 .PHONY: demo test bench
 
 demo:
-	rt check plan gate
+	cd crates/plan && rt run -- check ../../examples/first/settings
+	cd crates/gate && rt run -- ../../examples/first/settings < /dev/null
 	@echo "plan show examples/first/settings says:"
-	@target/bin/plan show examples/first/settings
+	@crates/plan/out/plan show examples/first/settings
 	@echo "gate examples/first/settings, with this input:"
 	@cut -c 1-72 examples/first/input
 	@echo "says:"
-	@target/bin/gate examples/first/settings < examples/first/input
+	@crates/gate/out/gate examples/first/settings < examples/first/input
 
 test:
 	.ci/run
