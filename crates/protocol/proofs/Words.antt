@@ -1,6 +1,6 @@
 -- The laws of the kind of a word: it is this kind exactly if the bytes are a word of this kind, and refused
 -- exactly if they are a word of none. Assumes nothing.
-use Rattle.std.proofs.Common.{◌≡◌, ℕ, true, false, List, length, get_or, Ok, Err, arith}
+use Rattle.std.proofs.Common.{◌≡◌, ℕ, ◌<◌, true, false, List, length, get_or, Ok, Err, sym, arith}
 use Rattle.std.proofs.lemmas.Bool.Decides.{nat_tests}
 use Rattle.protocol.specs.declared.kinds.Kind.{Kind}
 use Rattle.protocol.specs.declared.kinds.Kind.TheVariants.{Hello, Reply, Packet, Empty}
@@ -54,3 +54,21 @@ wrong_length Empty w byte wrong = grind (arith, nat_tests)
 -- the byte of a kind and a length that fits it make a word
 pub word_made : (k : Kind) (w : List ℕ) → kind_byte k ≡ get_or w 0 0 → length_fits k (length w) ≡ true → IsWord k w
 word_made k w byte fits = grind (arith, nat_tests)
+
+-- THE SAME, as the code finds it out: where no kind has the first byte, the bytes are refused
+pub no_kind : (w : List ℕ) → ((k : Kind) → kind_byte k ≡ get_or w 0 0 → ⊥) → Err UnknownWord ≡ kind_of w
+no_kind w none = sym (kind_none w (λ k is. none k (first_byte k w is)))
+
+-- where there is none, too
+pub no_byte : (w : List ℕ) → length w < 1 → Err UnknownWord ≡ kind_of w
+no_byte w empty = sym (none-empty w (omega arith))
+
+-- where the length doesn't fit the kind with that byte, too
+pub no_length : (k : Kind) (w : List ℕ) → kind_byte k ≡ get_or w 0 0 → false ≡ length_fits k (length w) → Err UnknownWord ≡ kind_of w
+no_length k w byte wrong = sym (wrong_length k w byte (sym wrong))
+
+-- where it fits, the bytes have that kind
+pub this_kind : (k : Kind) (w : List ℕ) → kind_byte k ≡ get_or w 0 0 → true ≡ length_fits k (length w) → Ok k ≡ kind_of w
+this_kind k w byte fits = sym (kind_is k w (word_made k w byte (sym fits)))
+
+pub ruleset finding = (no_kind, no_byte, no_length, this_kind)

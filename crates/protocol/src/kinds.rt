@@ -60,6 +60,7 @@ impl Kind {
 
 /// The kind of the word with these bytes, by its first byte and its length. Refuses all other
 /// bytes, none at all too, as an unknown word. It changes nothing.
+#[tactic(auto, using(crate::proofs::Words::finding))]
 pub fn kind_of(word: &[u8]) -> Result<Kind, Refusal>
     ensures value { result ≡ kind_of word.now }
     ensures kinds { MatchResult result (λ k. IsWord k word.now) (λ e. (e ≡ UnknownWord) × ((k : Sort) → IsWord k word.now → ⊥)) }
