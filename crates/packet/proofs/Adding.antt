@@ -1,9 +1,9 @@
 -- One turn of adding up, and what the ones' complement sum is of the plain one. Assumes nothing.
-use Rattle.std.proofs.Common.{◌≡◌, ℕ, zero, suc, ◌+◌, ◌-◌, ◌*◌, ◌%◌, ◌<◌, ◌≤◌, true, false, cond, eqb, ◌⊎◌, List, [], ◌∷◌, ◌++◌, length, get_or, take, drop, sym, refl, ap, ◌∙◌, inl, inr, ⊎_elim, arith}
+use Rattle.std.proofs.Common.{◌≡◌, ℕ, zero, suc, ◌+◌, ◌-◌, ◌*◌, ◌%◌, ◌<◌, ◌≤◌, cond, eqb, ◌⊎◌, List, [], ◌∷◌, ◌++◌, length, get_or, take, drop, refl, ap, ◌∙◌, ⊎_elim, arith}
 use Rattle.std.proofs.lemmas.Bool.Decides.{nat_tests}
 use Rattle.std.specs.List.{AllByRecursion as All}
 use Rattle.std.proofs.lemmas.List.{take_rest}
-use Rattle.packet.specs.Sums.{ones_add, ones_sum, RightSum, all_ones, with_field, field_for}
+use Rattle.packet.specs.Sums.{ones_add, ones_sum, RightSum, with_field}
 
 -- a pair of bytes is added, and the rest is left
 pub pair_more : (sum new : ℕ) (rest : List ℕ) → 2 ≤ length rest → new ≡ ones_add sum (get_or rest 0 0 * 256 + get_or rest 1 0) → ones_sum new (take (length rest - 2) (drop 2 rest)) ≡ ones_sum sum rest

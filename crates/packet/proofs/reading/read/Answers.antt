@@ -3,8 +3,8 @@ use Rattle.packet.specs.Packets.{IsPacket, header_sum, source_in, destination_in
 use Rattle.packet.proofs.Packets.{taken, refused}
 use Rattle.packet.proofs.reading.read.Goals as goal
 
-pub returns-then-bytes-lt-MIN-HEADER : goal.returns-then-bytes-lt-MIN-HEADER
-returns-then-bytes-lt-MIN-HEADER c =
+pub returns-then-bytes-lt-MIN_HEADER : goal.returns-then-bytes-lt-MIN_HEADER
+returns-then-bytes-lt-MIN_HEADER c =
     let none : IsPacket c.args.bytes.now → ⊥ = λ is. omega arith in
     record { value = sym (refused c.args.bytes.now none); packets = (refl, none) }
 
@@ -18,15 +18,15 @@ returns-then-total-bytes c =
     let none : IsPacket c.args.bytes.now → ⊥ = λ is. omega (arith, is, c.then-total-bytes.either) in
     record { value = sym (refused c.args.bytes.now none); packets = (refl, none) }
 
-pub returns-then-ones-sum : goal.returns-then-ones-sum
-returns-then-ones-sum c =
-    let sum : header_sum c.args.bytes.now ≡ c.ones-sum.result = search rules in
+pub returns-then-ones_sum : goal.returns-then-ones_sum
+returns-then-ones_sum c =
+    let sum : header_sum c.args.bytes.now ≡ c.ones_sum.result = search rules in
     let none : IsPacket c.args.bytes.now → ⊥ = λ is. omega (arith, is) in
     record { value = sym (refused c.args.bytes.now none); packets = (refl, none) }
 
 pub returns : goal.returns
 returns c =
-    let sum : header_sum c.args.bytes.now ≡ c.ones-sum.result = search rules in
+    let sum : header_sum c.args.bytes.now ≡ c.ones_sum.result = search rules in
     let is : IsPacket c.args.bytes.now = record { version = omega arith; long = omega arith; inside = omega arith; whole = omega arith; small = omega arith; right = omega arith } in
     let from : c.address.result ≡ source_in c.args.bytes.now = search rules in
     let to : c.address-2.result ≡ destination_in c.args.bytes.now = search rules in
