@@ -1,9 +1,8 @@
 -- Settings that are made from one plan are allowed, and agree. Assumes nothing.
-use Rattle.std.proofs.Common.{◌≡◌, ℕ, zero, suc, ◌+◌, ◌-◌, ◌*◌, ◌<◌, ◌≤◌, Bool, true, false, cond, eqb, ltb, leb, ◌≢◌, ◌⊎◌, List, ◌++◌, map, length, get_or, take, drop, set, replicate, Ok, sym, refl, ap, ◌∙◌, inl, inr, arith}
+use Rattle.std.proofs.Common.{◌≡◌, ℕ, zero, suc, ◌+◌, ◌-◌, ◌*◌, ◌<◌, ◌≤◌, Bool, true, false, cond, eqb, leb, ◌≢◌, ◌⊎◌, List, length, get_or, take, drop, replicate, Ok, sym, refl, ap, ◌∙◌, inl, inr, arith}
 use Rattle.std.proofs.lemmas.List.FromFn.{length-map-range_with_len, get_or-map-range_with_len}
 use Rattle.std.proofs.lemmas.List.{length-set, length-take-le, length-drop, length-append, length-replicate, get_or-set_same, get_or-set_other, get_or-replicate, get_or_append_left, get_or-append_right, get_or-take, ext_get_or}
 use Rattle.std.proofs.lemmas.Bool.Decides.{nat_tests, eqb_tells, leb_tells}
-use Rattle.std.specs.List.{range_with_len}
 use Rattle.settings.specs.declared.plans.Key.{Key}
 use Rattle.settings.specs.declared.plans.Plan.{Plan}
 use Rattle.settings.specs.declared.plans.Settings.{Settings}
@@ -11,7 +10,7 @@ use Rattle.settings.specs.Fields.{part}
 use Rattle.settings.specs.Plans.{blank_key, empty_settings, key_at}
 use Rattle.settings.specs.Making.{pair_place, drawn_needed, key_for, keys_for, settings_for, all_settings, settings_at, Agree, AllRead, PairsApart}
 use Rattle.settings.specs.Reading.{settings_read, all_zero}
-use Rattle.settings.specs.Sound.{filled, Padded, SoundPlan, Sound}
+use Rattle.settings.specs.Sound.{filled, SoundPlan, Sound}
 use Rattle.settings.specs.Writing.{bytes_of}
 use Rattle.settings.proofs.Written.{reads_back}
 

@@ -1,5 +1,5 @@
 -- A search from gate 0 up: what was found below a number is found below every greater one. Assumes nothing.
-use Rattle.std.proofs.Common.{◌≡◌, ℕ, zero, suc, ◌+◌, ◌<◌, ◌≤◌, true, false, cond, List, Some, None, sym, refl, ap, ◌∙◌, add-zero, add-suc, add-one, arith}
+use Rattle.std.proofs.Common.{◌≡◌, ℕ, zero, suc, ◌+◌, true, false, cond, List, Some, None, refl, ap, ◌∙◌, add-zero, add-suc, add-one}
 use Rattle.settings.specs.declared.ranges.Range.{Range}
 use Rattle.settings.specs.Ranges.{range_at, same_range, first_of, same_below, better, owner_below}
 

@@ -1,5 +1,5 @@
 -- A plan that is allowed stays so with one gate more. Assumes nothing.
-use Rattle.std.proofs.Common.{◌≡◌, ℕ, zero, suc, ◌+◌, ◌-◌, ◌^◌, ◌<◌, ◌≤◌, Bool, true, false, cond, eqb, ◌≢◌, ◌⊎◌, List, [], ◌∷◌, ◌++◌, length, get_or, take, set, replicate, Some, None, Option, sym, refl, ap, ◌∙◌, subst, inl, inr, append_assoc, arith}
+use Rattle.std.proofs.Common.{◌≡◌, ℕ, zero, suc, ◌+◌, ◌-◌, ◌^◌, ◌<◌, ◌≤◌, Bool, true, false, cond, eqb, ◌⊎◌, List, [], ◌∷◌, ◌++◌, length, get_or, take, set, replicate, Some, None, Option, sym, refl, ap, ◌∙◌, subst, inl, inr, append_assoc, arith}
 use Rattle.std.proofs.lemmas.List.{length-set, length-take-le, get_or-set_same, get_or-set_other, take_more_set, set_at}
 use Rattle.std.proofs.lemmas.Bool.Decides.{eqb_tells}
 use Rattle.std.specs.Option.{option_map}
@@ -8,9 +8,8 @@ use Rattle.settings.specs.declared.faults.Cause.TheVariants.{Wrong, Repeats}
 use Rattle.settings.specs.declared.plans.Plan.{Plan}
 use Rattle.settings.specs.declared.ranges.Range.{Range}
 use Rattle.settings.specs.Ranges.{blank_range, range_at, IsPrefix, is_prefix, same_range, first_of, same_below}
-use Rattle.settings.specs.Owners.{Table}
-use Rattle.settings.specs.Plans.{empty_plan, plan_with, range_cause, outside_of}
-use Rattle.settings.specs.Sound.{filled, Padded, SoundPlan}
+use Rattle.settings.specs.Plans.{empty_plan, plan_with, range_cause}
+use Rattle.settings.specs.Sound.{Padded, SoundPlan}
 use Rattle.settings.proofs.Prefixes.{prefix_decides}
 
 -- a plan with no gates

@@ -1,6 +1,6 @@
 -- Whether a range is a prefix, decided by trying every length. Assumes nothing.
-use Rattle.std.proofs.Common.{◌≡◌, ℕ, ◌<◌, ◌≤◌, Bool, true, false, is_some, Some, None, Decides, Option, sym, refl, ap, ◌∙◌, arith, MatchOption}
-use Rattle.std.proofs.lemmas.Bool.Decides.{nat_tests, Decides-below_or, same_from_decides}
+use Rattle.std.proofs.Common.{◌≡◌, ℕ, ◌<◌, true, false, is_some, Some, None, Decides, Option, refl, arith, MatchOption}
+use Rattle.std.proofs.lemmas.Bool.Decides.{nat_tests, Decides-below_or}
 use Rattle.settings.specs.declared.ranges.Range.{Range}
 use Rattle.settings.specs.Ranges.{PrefixOf, IsPrefix, has_length, prefix_below, is_prefix}
 

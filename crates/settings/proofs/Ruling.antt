@@ -1,6 +1,5 @@
 -- In runs by a plan, the abstract protocol's owners are those of the longest prefixes. Assumes nothing.
-use Rattle.std.proofs.Common.{◌≡◌, ℕ, ◌<◌, ◌⊎◌, List, subst, inl, inr, arith}
-use Rattle.gates.specs.World.{Ev}
+use Rattle.std.proofs.Common.{◌≡◌, ℕ, ◌<◌, ◌⊎◌, subst, inl, inr, arith}
 use Rattle.gates.proofs.Whole.{main}
 use Rattle.settings.specs.declared.plans.Plan.{Plan}
 use Rattle.settings.specs.Owners.{Owns, Nobodys}

@@ -1,5 +1,5 @@
 -- Steps that stop at the first fault. Assumes nothing.
-use Rattle.std.proofs.Common.{◌≡◌, ℕ, zero, suc, ◌+◌, List, Ok, Err, Result, sym, refl, ap, ◌∙◌, add-zero, add-suc, add-one}
+use Rattle.std.proofs.Common.{◌≡◌, ℕ, zero, suc, ◌+◌, List, Ok, Err, Result, sym, ap, ◌∙◌, add-zero, add-suc, add-one}
 use Rattle.settings.specs.declared.faults.Fault.{Fault}
 use Rattle.settings.specs.declared.plans.Settings.{Settings}
 use Rattle.settings.specs.Faults.{and_then}

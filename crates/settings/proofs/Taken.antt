@@ -1,10 +1,9 @@
 -- What was read is allowed, and writing it gives the bytes. Assumes nothing.
-use Rattle.std.proofs.Common.{◌≡◌, ℕ, zero, suc, ◌+◌, ◌-◌, ◌*◌, ◌/◌, ◌%◌, ◌^◌, ◌<◌, ◌≤◌, Bool, true, false, cond, not, ◌&&◌, eqb, leb, ◌⊎◌, List, [], ◌∷◌, ◌++◌, length, get_or, take, drop, set, Some, None, Ok, Err, Option, Result, sym, refl, ap, ◌∙◌, subst, inl, inr, append_assoc, append-nil, add-one, arith}
+use Rattle.std.proofs.Common.{◌≡◌, ℕ, zero, suc, ◌+◌, ◌-◌, ◌*◌, ◌/◌, ◌%◌, ◌<◌, ◌≤◌, Bool, true, false, cond, not, ◌&&◌, eqb, leb, ◌⊎◌, List, [], ◌∷◌, ◌++◌, length, get_or, take, drop, set, Some, None, Ok, Err, Option, Result, sym, refl, ap, ◌∙◌, subst, inl, inr, append_assoc, append-nil, add-one, arith}
 use Rattle.std.proofs.lemmas.Nat.{shr-shr}
 use Rattle.std.proofs.lemmas.List.{drop-drop, drop_all, length-drop, length-take-le, take-append-drop, get_or-set_same, get_or-set_other}
 use Rattle.std.proofs.lemmas.Bool.Decides.{nat_tests, leb_tells, eqb_tells}
 use Rattle.std.specs.List.{AllByRecursion as All}
-use Rattle.protocol.specs.Limits.{gates_limit, window_size, life_least, life_limit, most_least, most_limit}
 use Rattle.settings.specs.declared.faults.Cause.{Cause}
 use Rattle.settings.specs.declared.faults.Cause.TheVariants.{Wrong, Missing}
 use Rattle.settings.specs.declared.faults.Fault.{Fault}
@@ -17,8 +16,8 @@ use Rattle.settings.specs.declared.reading.Header.{Header}
 use Rattle.settings.specs.Faults.{header_fault, entry_fault, and_then}
 use Rattle.settings.specs.Fields.{number_from, part, number_at, bytes_in, number_in, between, checked}
 use Rattle.settings.specs.Layout.{entry_at}
-use Rattle.settings.specs.Ranges.{blank_range, range_at}
-use Rattle.settings.specs.Plans.{blank_key, empty_settings, settings_with, range_cause, key_at, outside_of}
+use Rattle.settings.specs.Ranges.{blank_range}
+use Rattle.settings.specs.Plans.{blank_key, empty_settings, settings_with, range_cause, key_at}
 use Rattle.settings.specs.Reading.{header_read, all_zero, key_checked, range_unless, range_read, entry_read, entries_read, settings_read}
 use Rattle.settings.specs.Sound.{Padded, SoundPlan, Sound, WritesBack}
 use Rattle.settings.specs.Writing.{two, four, header_bytes, place_bytes, entry_bytes, entries_bytes, bytes_of}

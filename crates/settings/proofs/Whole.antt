@@ -1,5 +1,5 @@
 -- How whole settings are read: the ways to a fault, and the one to the end. Assumes nothing.
-use Rattle.std.proofs.Common.{◌≡◌, ℕ, ◌+◌, ◌-◌, ◌<◌, true, false, cond, eqb, List, length, Ok, Err, Result, sym, refl, ap, ◌∙◌, arith}
+use Rattle.std.proofs.Common.{◌≡◌, ℕ, ◌+◌, ◌-◌, ◌<◌, true, false, cond, eqb, List, length, Ok, Err, Result, sym, ap, ◌∙◌, arith}
 use Rattle.std.proofs.lemmas.Bool.Decides.{nat_tests}
 use Rattle.settings.specs.declared.faults.Fault.{Fault}
 use Rattle.settings.specs.declared.faults.Field.TheVariants as field
@@ -9,7 +9,7 @@ use Rattle.settings.specs.declared.reading.Header.{Header}
 use Rattle.settings.specs.Layout.{entry_at}
 use Rattle.settings.specs.Faults.{header_fault}
 use Rattle.settings.specs.Plans.{empty_settings}
-use Rattle.settings.specs.Reading.{header_read, entry_read, entries_read, end_read, settings_read}
+use Rattle.settings.specs.Reading.{header_read, entry_read, entries_read, settings_read}
 use Rattle.settings.proofs.Steps.{after-ok, after-err, entries_more, fault-stays}
 
 -- the settings with which the entries are begun

@@ -1,32 +1,28 @@
 -- Reading what was written gives it back. Assumes nothing.
-use Rattle.std.proofs.Common.{◌≡◌, ℕ, zero, suc, ◌+◌, ◌-◌, ◌*◌, ◌/◌, ◌%◌, ◌^◌, ◌<◌, ◌≤◌, Bool, true, false, cond, not, ◌&&◌, eqb, leb, ◌⊎◌, List, [], ◌∷◌, ◌++◌, length, get_or, take, drop, set, replicate, Some, None, Ok, Err, Option, Result, sym, refl, ap, ◌∙◌, inl, inr, append_assoc, append-nil, add-one, arith}
+use Rattle.std.proofs.Common.{◌≡◌, ℕ, zero, suc, ◌+◌, ◌-◌, ◌*◌, ◌/◌, ◌%◌, ◌^◌, ◌<◌, ◌≤◌, true, false, cond, not, ◌&&◌, eqb, ◌⊎◌, List, [], ◌∷◌, ◌++◌, length, get_or, take, drop, set, replicate, Some, None, Ok, Err, Option, Result, sym, refl, ap, ◌∙◌, inl, inr, append_assoc, append-nil, add-one, arith}
 use Rattle.std.proofs.lemmas.Nat.{shr-shr, div-add-mod'}
-use Rattle.std.proofs.lemmas.List.{length-append, length-take-le, length-replicate, take_at, drop_at, drop-drop, set_at, take_more, get_or_append_left, get_or-take, take_all}
+use Rattle.std.proofs.lemmas.List.{length-append, length-take-le, take_at, drop_at, drop-drop, set_at, take_more, get_or_append_left, get_or-take}
 use Rattle.std.proofs.lemmas.Bool.Decides.{nat_tests, eqb_tells}
 use Rattle.std.specs.Option.{option_map}
 use Rattle.protocol.specs.Limits.{gates_limit, window_size, life_least, life_limit, most_least, most_limit}
 use Rattle.settings.specs.declared.faults.Cause.{Cause}
 use Rattle.settings.specs.declared.faults.Cause.TheVariants.{Wrong, Repeats}
 use Rattle.settings.specs.declared.faults.Fault.{Fault}
-use Rattle.settings.specs.declared.faults.Field.{Field}
 use Rattle.settings.specs.declared.faults.Field.TheVariants as field
 use Rattle.settings.specs.declared.plans.Key.{Key}
-use Rattle.settings.specs.declared.plans.Plan.{Plan}
 use Rattle.settings.specs.declared.plans.Settings.{Settings}
 use Rattle.settings.specs.declared.ranges.Range.{Range}
-use Rattle.settings.specs.declared.reading.Header.{Header}
 use Rattle.settings.specs.Faults.{header_fault, entry_fault, and_then}
 use Rattle.settings.specs.Fields.{number_from, part, number_at, bytes_in, number_in, between, checked}
-use Rattle.settings.specs.Layout.{version_number, version_at, gates_at, own_at, life_at, most_at, window_at, key_size, first_at, last_at, outside_at, entry_at}
+use Rattle.settings.specs.Layout.{version_at, gates_at, own_at, life_at, most_at, window_at, first_at, last_at, outside_at, entry_at}
 use Rattle.settings.specs.Ranges.{blank_range, range_at, is_prefix, same_range, first_of, same_below}
-use Rattle.settings.specs.Plans.{blank_key, empty_settings, settings_with, range_cause, key_at, outside_of}
-use Rattle.settings.specs.Reading.{header_field, header_read, address_field, all_zero, key_checked, range_unless, range_read, entry_read, entries_read, end_read, settings_read}
-use Rattle.settings.specs.Sound.{filled, Padded, SoundPlan, Sound, ReadsBack}
+use Rattle.settings.specs.Plans.{blank_key, range_cause, key_at, outside_of}
+use Rattle.settings.specs.Reading.{header_field, header_read, address_field, all_zero, key_checked, range_unless, range_read, entry_read, entries_read, settings_read}
+use Rattle.settings.specs.Sound.{filled, SoundPlan, Sound, ReadsBack}
 use Rattle.settings.specs.Writing.{two, four, header_bytes, place_bytes, entry_bytes, entries_bytes, bytes_of}
 use Rattle.settings.proofs.Numbers.{number_there, bytes_there}
 use Rattle.settings.proofs.Prefixes.{prefix_decides}
-use Rattle.settings.proofs.Steps.{after-ok, entries_more}
-use Rattle.settings.proofs.Whole.{begun}
+use Rattle.settings.proofs.Steps.{after-ok}
 
 number-two : (n : ℕ) → n < 65536 → number_from 0 (two n []) ≡ n
 number-two n small = omega arith

@@ -1,5 +1,5 @@
 -- Faults of settings, and steps that stop at the first one. Assumes nothing.
-use Rattle.std.specs.Prelude.{ℕ, Some, None, Ok, Err, Option, Result}
+use Rattle.std.specs.Prelude.{ℕ, Some, None, Ok, Err, Result}
 use Rattle.settings.specs.declared.faults.Field.{Field}
 use Rattle.settings.specs.declared.faults.Cause.{Cause}
 use Rattle.settings.specs.declared.faults.Fault.{Fault}

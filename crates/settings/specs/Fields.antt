@@ -1,6 +1,5 @@
 -- Numbers and keys at a place among bytes, all high byte first. Assumes nothing.
-use Rattle.std.specs.Prelude.{ℕ, ◌+◌, ◌*◌, Bool, true, cond, ◌&&◌, List, [], ◌∷◌, length, take, drop, Some, None, Ok, Err, Option, Result, nat_le}
-use Rattle.settings.specs.declared.faults.Field.{Field}
+use Rattle.std.specs.Prelude.{ℕ, ◌+◌, ◌*◌, Bool, cond, ◌&&◌, List, [], ◌∷◌, length, take, drop, Some, None, Ok, Err, Option, Result, nat_le}
 use Rattle.settings.specs.declared.faults.Cause.{Cause}
 use Rattle.settings.specs.declared.faults.Cause.TheVariants.{Missing, Wrong}
 use Rattle.settings.specs.declared.faults.Fault.{Fault}

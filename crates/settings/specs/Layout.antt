@@ -14,8 +14,8 @@ abbrev pub gates_at : ℕ
 gates_at = 1
 
 -- where the gate's own number stands, in 1 byte
-abbrev pub field_own : ℕ
-field_own = 2
+abbrev pub own_at : ℕ
+own_at = 2
 
 -- where the life of a talk stands, in 2 bytes
 abbrev pub life_at : ℕ

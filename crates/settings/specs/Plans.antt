@@ -1,5 +1,5 @@
 -- Plans and settings, and how a gate's entry is added. Assumes nothing.
-use Rattle.std.specs.Prelude.{ℕ, ◌+◌, cond, ◌&&◌, List, replicate, Some, None, Ok, Err, Option, Result, nat_le, slice_index, slice_index_or, slice_set}
+use Rattle.std.specs.Prelude.{ℕ, ◌+◌, cond, ◌&&◌, replicate, Some, None, Ok, Err, Option, Result, nat_le, slice_index, slice_index_or, slice_set}
 use Rattle.std.specs.Option.{option_map}
 use Rattle.settings.specs.declared.faults.Cause.{Cause}
 use Rattle.settings.specs.declared.faults.Cause.TheVariants.{Wrong, Repeats}
@@ -11,8 +11,7 @@ use Rattle.settings.specs.declared.plans.Key.{Key}
 use Rattle.settings.specs.declared.plans.Plan.{Plan}
 use Rattle.settings.specs.declared.plans.Settings.{Settings}
 use Rattle.settings.specs.declared.ranges.Range.{Range}
-use Rattle.settings.specs.Layout.{key_size}
-use Rattle.settings.specs.Ranges.{blank_range, range_at, is_prefix, same_below, owner_below}
+use Rattle.settings.specs.Ranges.{blank_range, is_prefix, same_below, owner_below}
 
 -- the key of zeros: a gate's with itself, and where none was put
 abbrev pub blank_key : Key

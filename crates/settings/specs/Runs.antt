@@ -1,5 +1,5 @@
 -- A plan as the rules of the abstract protocol, and who owns what comes out in runs by them. Assumes nothing.
-use Rattle.std.specs.Prelude.{ℕ, ◌<◌, List}
+use Rattle.std.specs.Prelude.{◌<◌, List}
 use Rattle.gates.specs.Lists.{In}
 use Rattle.gates.specs.Talk.{Rules}
 use Rattle.gates.specs.World.{Ev, Note, world}

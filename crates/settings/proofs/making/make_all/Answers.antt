@@ -1,17 +1,16 @@
-use Rattle.std.proofs.Common.{◌≡◌, ◌+◌, ◌*◌, ◌≤◌, true, cond, List, [], ◌∷◌, ◌++◌, map, length, None, vec_items, sym, refl, ap, ◌∙◌, subst, arith, rules}
+use Rattle.std.proofs.Common.{◌≡◌, ◌*◌, ◌≤◌, [], ◌∷◌, ◌++◌, map, length, vec_items, sym, ap, ◌∙◌, subst, arith}
 use Rattle.std.proofs.lemmas.List.FromFn.{map-range_with_len_more}
 use Rattle.std.proofs.lemmas.Bool.Decides.{nat_tests}
 use Rattle.std.specs.List.{range_with_len}
-use Rattle.settings.specs.declared.plans.Settings.{Settings}
-use Rattle.settings.specs.Making.{settings_for, all_settings, make_fault, Agree, AllRead}
+use Rattle.settings.specs.Making.{settings_for, all_settings, Agree, AllRead}
 use Rattle.settings.proofs.Agreeing.{agree, all_read}
 use Rattle.settings.proofs.making.make_all.Goals as goal
 
 pub loop-own-preserved : goal.loop-own-preserved
 loop-own-preserved c =
-    let pushed : vec_items c.push.new.self ≡ vec_items c.loop-own.all ++ c.settings-for-settings.result ∷ [] = grind arith in
+    let pushed : vec_items c.push.new.self ≡ vec_items c.loop-own.all ++ c.settings_for-settings.result ∷ [] = grind arith in
     pushed
-    ∙ (λ j. (c.loop-own.invariant j) ++ (c.settings-for-settings.ensures j) ∷ [])
+    ∙ (λ j. (c.loop-own.invariant j) ++ (c.settings_for-settings.ensures j) ∷ [])
     ∙ sym (map-range_with_len_more (settings_for c.args.plan c.args.drawn.now) 0 c.loop-own.own c.loop-own.own (omega arith))
 
 pub returns : goal.returns

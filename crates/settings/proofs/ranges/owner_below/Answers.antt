@@ -1,5 +1,3 @@
-use Rattle.std.proofs.Common.{sym, ap, ◌∙◌}
-use Rattle.settings.specs.Ranges.{better}
 use Rattle.settings.proofs.Below.{owner_more}
 use Rattle.settings.proofs.ranges.owner_below.Goals as goal
 

@@ -1,14 +1,14 @@
-use Rattle.std.proofs.Common.{◌≡◌, ◌+◌, ◌*◌, ◌^◌, ◌<◌, get_or, drop, sym, ap, ◌∙◌, arith}
+use Rattle.std.proofs.Common.{◌≡◌, ◌+◌, ◌*◌, get_or, drop, sym, ◌∙◌, arith}
 use Rattle.std.proofs.lemmas.List.{at_drop_more, at_drop_all}
 use Rattle.settings.specs.Fields.{number_from}
 use Rattle.settings.proofs.Numbers.{room, room_more}
 use Rattle.settings.proofs.reader.number_of.Goals as goal
 
-pub overflow-mul-number : goal.overflow-mul-number
-overflow-mul-number c = omega (arith, room c.loop-byte.number c.loop-byte.byte-index c.loop-byte.invariant.1 (omega arith))
+pub overflow_mul-number : goal.overflow_mul-number
+overflow_mul-number c = omega (arith, room c.loop-byte.number c.loop-byte.byte-index c.loop-byte.invariant.1 (omega arith))
 
-pub overflow-add-number : goal.overflow-add-number
-overflow-add-number c = omega (arith, room c.loop-byte.number c.loop-byte.byte-index c.loop-byte.invariant.1 (omega arith))
+pub overflow_add-number : goal.overflow_add-number
+overflow_add-number c = omega (arith, room c.loop-byte.number c.loop-byte.byte-index c.loop-byte.invariant.1 (omega arith))
 
 pub loop-byte-preserved : goal.loop-byte-preserved
 loop-byte-preserved c =

@@ -1,4 +1,4 @@
-use Rattle.std.proofs.Common.{◌≡◌, true, false, cond, Some, None, Option, sym, ap, ◌∙◌, rules}
+use Rattle.std.proofs.Common.{◌≡◌, true, false, cond, Some, None, Option, sym, ap, rules}
 use Rattle.std.specs.Option.{option_map}
 use Rattle.settings.specs.declared.faults.Cause.{Cause}
 use Rattle.settings.specs.declared.faults.Cause.TheVariants.{Wrong, Repeats}
@@ -6,9 +6,9 @@ use Rattle.settings.specs.Ranges.{is_prefix, same_below}
 use Rattle.settings.specs.Plans.{range_cause}
 use Rattle.settings.proofs.plans.Plan.range_cause.Goals as goal
 
-pub returns-then-not-is-prefix : goal.returns-then-not-is-prefix
+pub returns-then-not-is_prefix : goal.returns-then-not-is_prefix
 unfolding range_cause
-returns-then-not-is-prefix c =
+returns-then-not-is_prefix c =
     let bad : is_prefix c.args.range ≡ false = search rules in
     sym (ap (λ t. cond {A = Option Cause} t (option_map Repeats (same_below c.args.self.ranges c.args.range c.args.self.gates)) (Some Wrong)) bad)
 

@@ -12,5 +12,5 @@ returns-then-not-has c =
 pub returns : goal.returns
 returns c =
     let there : c.args.at + 32 ≤ length c.args.self.bytes.now = grind (arith, nat_tests) in
-    let value : c.copy-from-slice.new.self ≡ part c.args.self.bytes.now c.args.at 32 = search rules in
+    let value : c.copy_from_slice.new.self ≡ part c.args.self.bytes.now c.args.at 32 = search rules in
     ap Some value ∙ sym (bytes_there c.args.self.bytes.now c.args.at 32 there)

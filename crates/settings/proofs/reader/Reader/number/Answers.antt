@@ -12,5 +12,5 @@ returns-then-not-has c =
 pub returns : goal.returns
 returns c =
     let there : c.args.at + c.args.size ≤ length c.args.self.bytes.now = grind (arith, nat_tests) in
-    let value : c.number-of.result ≡ number_at c.args.self.bytes.now c.args.at c.args.size = search rules in
+    let value : c.number_of.result ≡ number_at c.args.self.bytes.now c.args.at c.args.size = search rules in
     ap Some value ∙ sym (number_there c.args.self.bytes.now c.args.at c.args.size there)
