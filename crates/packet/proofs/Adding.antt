@@ -1,7 +1,7 @@
 -- One turn of adding up, and what the ones' complement sum is of the plain one. Assumes nothing.
 use Rattle.std.proofs.Common.{◌≡◌, ℕ, zero, suc, ◌+◌, ◌-◌, ◌*◌, ◌%◌, ◌<◌, ◌≤◌, cond, eqb, ◌⊎◌, List, [], ◌∷◌, ◌++◌, length, get_or, take, drop, refl, ap, ◌∙◌, ⊎_elim, arith}
 use Rattle.std.proofs.lemmas.Bool.Decides.{nat_tests}
-use Rattle.std.specs.List.{AllByRecursion as All}
+use Rattle.std.specs.List.{AllByRecursion}
 use Rattle.std.proofs.lemmas.List.{take_rest}
 use Rattle.packet.specs.Sums.{ones_add, ones_sum, RightSum, with_field}
 
@@ -36,7 +36,7 @@ folded n = cond (eqb n 0) 0 (1 + (n - 1) % 65535)
 add_folded : (n w s : ℕ) → w < 65536 → s ≡ folded n → ones_add s w ≡ folded (n + w)
 add_folded n w s small is = grind (arith, nat_tests)
 
-sum_folded : (bs : List ℕ) (s n : ℕ) → All (λ b. b < 256) bs → s ≡ folded n → ones_sum s bs ≡ folded (n + plain bs)
+sum_folded : (bs : List ℕ) (s n : ℕ) → AllByRecursion (λ b. b < 256) bs → s ≡ folded n → ones_sum s bs ≡ folded (n + plain bs)
 sum_folded [] s n all is = is ∙ ap folded (omega arith)
 sum_folded (last ∷ []) s n all is = add_folded n (last * 256 + 0) s (omega arith) is ∙ ap folded (omega arith)
 sum_folded (high ∷ low ∷ rest) s n all is =
@@ -48,11 +48,11 @@ plain_append zero (x ∷ xs) ys even = absurd (omega arith)
 plain_append (suc k) (x ∷ []) ys even = absurd (omega arith)
 plain_append (suc k) (x ∷ y ∷ xs) ys even = omega (arith, plain_append k xs ys (omega arith))
 
-all_zeroed : (xs ys : List ℕ) (h l : ℕ) → All (λ b. b < 256) (xs ++ h ∷ l ∷ ys) → All (λ b. b < 256) (xs ++ 0 ∷ 0 ∷ ys)
+all_zeroed : (xs ys : List ℕ) (h l : ℕ) → AllByRecursion (λ b. b < 256) (xs ++ h ∷ l ∷ ys) → AllByRecursion (λ b. b < 256) (xs ++ 0 ∷ 0 ∷ ys)
 all_zeroed [] ys h l all = (omega arith, (omega arith, all.1.1))
 all_zeroed (x ∷ xs) ys h l all = (all.0, all_zeroed xs ys h l all.1)
 
-field_small : (xs ys : List ℕ) (h l : ℕ) → All (λ b. b < 256) (xs ++ h ∷ l ∷ ys) → h * 256 + l < 65536
+field_small : (xs ys : List ℕ) (h l : ℕ) → AllByRecursion (λ b. b < 256) (xs ++ h ∷ l ∷ ys) → h * 256 + l < 65536
 field_small [] ys h l all = omega arith
 field_small (x ∷ xs) ys h l all = field_small xs ys h l all.1
 

@@ -1,6 +1,6 @@
 -- The Internet checksum (RFC 1071). Assumes nothing.
 use Rattle.std.specs.Prelude.{◌≡◌, ℕ, ◌+◌, ◌-◌, ◌*◌, ◌/◌, ◌%◌, ◌^◌, ◌<◌, ◌⊎◌, List, [], ◌∷◌, ◌++◌, length}
-use Rattle.std.specs.List.{AllByRecursion as All}
+use Rattle.std.specs.List.{AllByRecursion}
 
 -- 16-bit numbers added in ones' complement: the carry is brought round to the end (RFC 1071, section 2 (A))
 abbrev pub ones_add : ℕ → ℕ → ℕ
@@ -29,6 +29,6 @@ field_for front back = all_ones - ones_sum 0 (with_field front 0 0 back)
 -- ones' complement has two zeros
 abbrev pub RightSum : Type 0
 RightSum =
-    (front back : List ℕ) (high low : ℕ) → length front ≡ 10 → All (λ b. b < 256) (with_field front high low back)
+    (front back : List ℕ) (high low : ℕ) → length front ≡ 10 → AllByRecursion (λ b. b < 256) (with_field front high low back)
     → (ones_sum 0 (with_field front high low back) ≡ all_ones → (high * 256 + low ≡ field_for front back) ⊎ ((high * 256 + low ≡ all_ones) × (field_for front back ≡ 0)))
     × ((high * 256 + low ≡ field_for front back) ⊎ ((high * 256 + low ≡ all_ones) × (field_for front back ≡ 0)) → ones_sum 0 (with_field front high low back) ≡ all_ones)

@@ -3,7 +3,7 @@ use Rattle.std.proofs.Common.{◌≡◌, ℕ, zero, suc, ◌+◌, ◌-◌, ◌*�
 use Rattle.std.proofs.lemmas.Nat.{shr-shr}
 use Rattle.std.proofs.lemmas.List.{drop-drop, drop_all, length-drop, length-take-le, take-append-drop, get_or-set_same, get_or-set_other}
 use Rattle.std.proofs.lemmas.Bool.Decides.{nat_tests, leb_tells, eqb_tells}
-use Rattle.std.specs.List.{AllByRecursion as All}
+use Rattle.std.specs.List.{AllByRecursion}
 use Rattle.settings.specs.declared.faults.Cause.{Cause}
 use Rattle.settings.specs.declared.faults.Cause.TheVariants.{Wrong, Missing}
 use Rattle.settings.specs.declared.faults.Fault.{Fault}
@@ -66,7 +66,7 @@ four_is a b c d n rest w x y z is =
     λ j. p j ∷ q j ∷ r j ∷ s j ∷ rest
 
 -- what stands before the entries, from the numbers that it holds
-header_is : (bs : List ℕ) (g o l m : ℕ) → All (λ b. b < 256) bs → 11 ≤ length bs → number_at bs 0 1 ≡ 1 → number_at bs 1 1 ≡ g → number_at bs 2 1 ≡ o → number_at bs 3 2 ≡ l → number_at bs 5 4 ≡ m → number_at bs 9 2 ≡ 2048 → 1 ∷ g ∷ o ∷ two l (four m (two 2048 (drop 11 bs))) ≡ bs
+header_is : (bs : List ℕ) (g o l m : ℕ) → AllByRecursion (λ b. b < 256) bs → 11 ≤ length bs → number_at bs 0 1 ≡ 1 → number_at bs 1 1 ≡ g → number_at bs 2 1 ≡ o → number_at bs 3 2 ≡ l → number_at bs 5 4 ≡ m → number_at bs 9 2 ≡ 2048 → 1 ∷ g ∷ o ∷ two l (four m (two 2048 (drop 11 bs))) ≡ bs
 header_is [] g o l m all long = absurd (omega arith)
 header_is (a ∷ []) g o l m all long = absurd (omega arith)
 header_is (a ∷ b ∷ []) g o l m all long = absurd (omega arith)
@@ -88,7 +88,7 @@ header_is (a ∷ b ∷ c ∷ d ∷ e ∷ f ∷ h ∷ i ∷ k ∷ n ∷ p ∷ res
     (λ j. va j ∷ gb j ∷ oc j ∷ two l (four m (window j))) ∙ (λ j. a ∷ b ∷ c ∷ two l (most j)) ∙ (λ j. a ∷ b ∷ c ∷ life j)
 
 -- a range and an address, from the numbers that they are
-place_is : (ys : List ℕ) (r : Range) (o : ℕ) → All (λ b. b < 256) ys → 12 ≤ length ys → number_from 0 (take 4 ys) ≡ r.first → number_from 0 (take 4 (drop 4 ys)) ≡ r.last → number_from 0 (take 4 (drop 8 ys)) ≡ o → place_bytes r o ++ drop 12 ys ≡ ys
+place_is : (ys : List ℕ) (r : Range) (o : ℕ) → AllByRecursion (λ b. b < 256) ys → 12 ≤ length ys → number_from 0 (take 4 ys) ≡ r.first → number_from 0 (take 4 (drop 4 ys)) ≡ r.last → number_from 0 (take 4 (drop 8 ys)) ≡ o → place_bytes r o ++ drop 12 ys ≡ ys
 place_is [] r o all long = absurd (omega arith)
 place_is (a ∷ []) r o all long = absurd (omega arith)
 place_is (a ∷ b ∷ []) r o all long = absurd (omega arith)
@@ -107,13 +107,13 @@ place_is (a ∷ b ∷ c ∷ d ∷ e ∷ f ∷ g ∷ h ∷ i ∷ k ∷ l ∷ m �
     let first : four r.first (e ∷ f ∷ g ∷ h ∷ i ∷ k ∷ l ∷ m ∷ rest) ≡ a ∷ b ∷ c ∷ d ∷ e ∷ f ∷ g ∷ h ∷ i ∷ k ∷ l ∷ m ∷ rest = four_is a b c d r.first (e ∷ f ∷ g ∷ h ∷ i ∷ k ∷ l ∷ m ∷ rest) (omega (arith, all)) (omega (arith, all)) (omega (arith, all)) (omega (arith, all)) fs in
     (λ j. four r.first (four r.last (out j))) ∙ (λ j. four r.first (last j)) ∙ first
 
-all_drop : (n : ℕ) (xs : List ℕ) → All (λ b. b < 256) xs → All (λ b. b < 256) (drop n xs)
+all_drop : (n : ℕ) (xs : List ℕ) → AllByRecursion (λ b. b < 256) xs → AllByRecursion (λ b. b < 256) (drop n xs)
 all_drop zero xs all = all
 all_drop (suc n) [] all = all
 all_drop (suc n) (x ∷ xs) all = all_drop n xs all.1
 
 -- an entry, from the key and the numbers in it
-entry_is : (bs : List ℕ) (at : ℕ) (k : List ℕ) (r : Range) (o : ℕ) → All (λ b. b < 256) bs → at + 44 ≤ length bs → part bs at 32 ≡ k → number_at bs (at + 32) 4 ≡ r.first → number_at bs (at + 36) 4 ≡ r.last → number_at bs (at + 40) 4 ≡ o → (k ++ place_bytes r o) ++ drop (at + 44) bs ≡ drop at bs
+entry_is : (bs : List ℕ) (at : ℕ) (k : List ℕ) (r : Range) (o : ℕ) → AllByRecursion (λ b. b < 256) bs → at + 44 ≤ length bs → part bs at 32 ≡ k → number_at bs (at + 32) 4 ≡ r.first → number_at bs (at + 36) 4 ≡ r.last → number_at bs (at + 40) 4 ≡ o → (k ++ place_bytes r o) ++ drop (at + 44) bs ≡ drop at bs
 entry_is bs at k r o all long key first last out =
     let xs : List ℕ = drop at bs in
     let ys : List ℕ = drop 32 xs in
@@ -262,7 +262,7 @@ record Upto (bs : List ℕ) (t : Settings) : Type 0 where
   padded : Padded t.plan.gates blank_key t.keys
   written : entries_bytes t t.plan.gates ++ drop (entry_at t.plan.gates) bs ≡ drop 11 bs
 
-module _ (bs : List ℕ) (all : All (λ b. b < 256) bs) where
+module _ (bs : List ℕ) (all : AllByRecursion (λ b. b < 256) bs) where
   grown : (u : Settings) (k : Key) (r : Range) (o : ℕ) → Upto bs u → u.plan.gates < 32 → EntryIs bs (entry_at u.plan.gates) u.own u.plan.gates u.plan k r o → Upto bs (settings_with u k r o)
   grown u k r o so room is =
       let m : ℕ = u.plan.gates in

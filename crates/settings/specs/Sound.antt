@@ -1,6 +1,6 @@
 -- Settings that are allowed, in plain words, and that their bytes are exactly what reading takes. Assumes nothing.
 use Rattle.std.specs.Prelude.{◌≡◌, ℕ, ◌-◌, ◌^◌, ◌<◌, ◌≤◌, true, List, ◌++◌, length, take, replicate, Ok}
-use Rattle.std.specs.List.{AllByRecursion as All}
+use Rattle.std.specs.List.{AllByRecursion}
 use Rattle.protocol.specs.Limits.{life_least, life_limit, most_least, most_limit}
 use Rattle.settings.specs.declared.plans.Plan.{Plan}
 use Rattle.settings.specs.declared.plans.Settings.{Settings}
@@ -46,4 +46,4 @@ ReadsBack = (s : Settings) → Sound s → settings_read (bytes_of s) ≡ Ok s
 
 -- what was read is allowed, and writing it gives the bytes
 abbrev pub WritesBack : Type 0
-WritesBack = (bytes : List ℕ) (s : Settings) → All (λ b. b < 256) bytes → settings_read bytes ≡ Ok s → Sound s × (bytes_of s ≡ bytes)
+WritesBack = (bytes : List ℕ) (s : Settings) → AllByRecursion (λ b. b < 256) bytes → settings_read bytes ≡ Ok s → Sound s × (bytes_of s ≡ bytes)
