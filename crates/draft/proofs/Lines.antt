@@ -1,5 +1,5 @@
 -- The lines of a text, one after another. Assumes nothing.
-use Rattle.std.proofs.Common.{◌≡◌, ℕ, ◌+◌, ◌<◌, List, [], ◌∷◌, length, Some, None, Ok, Err, sym, refl, ap, ◌∙◌, arith}
+use Rattle.std.proofs.Common.{◌≡◌, ℕ, ◌+◌, List, [], ◌∷◌, length, Some, None, Ok, Err, sym, refl, ap, ◌∙◌, arith}
 use Rattle.addresses.specs.declared.marks.Mark.TheVariants.{LineFeed}
 use Rattle.addresses.specs.Marks.{front, behind, pieces}
 use Rattle.addresses.proofs.Cutting.{others, pieces_are}

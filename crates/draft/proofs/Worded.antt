@@ -1,8 +1,8 @@
 -- The words of a line, one after another. Assumes nothing.
-use Rattle.std.proofs.Common.{◌≡◌, ℕ, zero, suc, ◌+◌, ◌<◌, ◌≤◌, Bool, true, false, cond, List, [], ◌∷◌, length, get_or, drop, Some, None, Option, sym, refl, ap, ◌∙◌, arith}
+use Rattle.std.proofs.Common.{◌≡◌, ℕ, zero, suc, ◌<◌, ◌≤◌, true, false, cond, List, [], ◌∷◌, length, get_or, drop, Some, None, Option, sym, refl, ap, ◌∙◌, arith}
 use Rattle.std.specs.Char.{is_ascii_whitespace}
 use Rattle.addresses.specs.declared.marks.Mark.TheVariants.{Blank}
-use Rattle.addresses.specs.Marks.{marks, front, behind, onto, pieces}
+use Rattle.addresses.specs.Marks.{front, behind, onto, pieces}
 use Rattle.addresses.proofs.Cutting.{others, pieces_are}
 use Rattle.draft.specs.Words.{non_empty, words_of}
 

@@ -1,10 +1,9 @@
 -- What each line of a plan's text adds to what was read before it. Assumes nothing.
-use Rattle.std.specs.Prelude.{ℕ, Bool, cond, List, [], ◌∷◌, replicate, is_some, Some, None, Ok, Err, codes, Option, Result, ◌==◌, slice_index, slice_set}
+use Rattle.std.specs.Prelude.{ℕ, cond, List, [], ◌∷◌, replicate, is_some, Some, None, Ok, Err, codes, Option, Result, ◌==◌, slice_index, slice_set}
 use Rattle.std.specs.Str.{bytes_eq}
 use Rattle.protocol.specs.Limits.{life_least, most_least}
 use Rattle.addresses.specs.Dotted.{address_read, prefix_read}
 use Rattle.addresses.specs.Numbers.{number_read}
-use Rattle.addresses.specs.declared.dotted.Prefix.{Prefix}
 use Rattle.settings.specs.declared.faults.Fault.{Fault}
 use Rattle.settings.specs.declared.plans.Plan.{Plan}
 use Rattle.settings.specs.Plans.{new_plan, add_to}

@@ -1,5 +1,5 @@
 -- The addresses of a prefix as it is written. Assumes nothing.
-use Rattle.std.specs.Prelude.{ℕ, ◌+◌, ◌-◌, ◌%◌, ◌^◌}
+use Rattle.std.specs.Prelude.{◌+◌, ◌-◌, ◌%◌, ◌^◌}
 use Rattle.addresses.specs.declared.dotted.Prefix.{Prefix}
 use Rattle.settings.specs.declared.ranges.Range.{Range}
 

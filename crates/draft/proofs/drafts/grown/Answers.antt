@@ -1,14 +1,14 @@
-use Rattle.std.proofs.Common.{arith, rules}
+use Rattle.std.proofs.Common.{rules}
 use Rattle.draft.specs.Drafts.{grown}
 use Rattle.draft.proofs.drafts.grown.Goals as goal
 
-pub returns-in-default : goal.returns-in-default
+pub returns-in_default : goal.returns-in_default
 unfolding grown
-returns-in-default c = search rules
+returns-in_default c = search rules
 
-pub returns-in-default-read-address : goal.returns-in-default-read-address
+pub returns-in_default-read_address : goal.returns-in_default-read_address
 unfolding grown
-returns-in-default-read-address c = search rules
+returns-in_default-read_address c = search rules
 
 pub returns-in-Ok : goal.returns-in-Ok
 unfolding grown

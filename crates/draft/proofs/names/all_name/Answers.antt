@@ -3,8 +3,8 @@ use Rattle.std.proofs.lemmas.List.{at_drop_more, at_drop_all}
 use Rattle.draft.specs.Names.{name_byte, all_name}
 use Rattle.draft.proofs.names.all_name.Goals as goal
 
-pub returns-then-not-is-name-byte : goal.returns-then-not-is-name-byte
-returns-then-not-is-name-byte c =
+pub returns-then-not-is_name_byte : goal.returns-then-not-is_name_byte
+returns-then-not-is_name_byte c =
     let other : name_byte (get_or c.args.word.now c.loop-byte.byte-index 0) ≡ false = search rules in
     sym (sym c.loop-byte.invariant ∙ at_drop_more all_name c.args.word.now c.loop-byte.byte-index 0 (omega arith) ∙ ap (λ b. b && all_name (drop (c.loop-byte.byte-index + 1) c.args.word.now)) other)
 

@@ -1,6 +1,5 @@
-use Rattle.std.proofs.Common.{◌≡◌, ◌<◌, ◌≤◌, [], length, get_or, sym, ap, ◌∙◌, arith}
+use Rattle.std.proofs.Common.{◌<◌, [], length, get_or, sym, ap, ◌∙◌, arith}
 use Rattle.std.proofs.lemmas.List.{get_or_past, get_or_default}
-use Rattle.draft.specs.declared.names.Name.{Name}
 use Rattle.draft.specs.Names.{blank_name}
 use Rattle.draft.proofs.names.name_at.Goals as goal
 

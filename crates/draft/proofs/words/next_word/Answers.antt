@@ -8,10 +8,10 @@ use Rattle.draft.specs.Words.{words_of}
 use Rattle.draft.proofs.Worded.{words_skip, words-none, words_more, words_last}
 use Rattle.draft.proofs.words.next_word.Goals as goal
 
-pub returns-then-is-empty : goal.returns-then-is-empty
-returns-then-is-empty c =
-    let told = c.trim-ascii-start-line.ensures.value in
-    words_skip told.0 c.args.line.now told.3 (omega (arith, told.2)) ∙ ap words_of (sym told.1) ∙ words-none c.trim-ascii-start-line.result.now (grind (arith, nat_tests))
+pub returns-then-is_empty : goal.returns-then-is_empty
+returns-then-is_empty c =
+    let told = c.trim_ascii_start-line.ensures.value in
+    words_skip told.0 c.args.line.now told.3 (omega (arith, told.2)) ∙ ap words_of (sym told.1) ∙ words-none c.trim_ascii_start-line.result.now (grind (arith, nat_tests))
 
 -- the line behind its first blanks begins with none
 shown : (line rest : List ℕ) (n : ℕ) → rest ≡ drop n line → length rest + n ≡ length line → 0 < length rest → (n < length line → is_ascii_whitespace (get_or line n 0) ≡ false) → is_ascii_whitespace (get_or rest 0 0) ≡ false
@@ -20,8 +20,8 @@ shown line rest n is long some shows =
 
 pub returns-in-Some : goal.returns-in-Some
 returns-in-Some c =
-    let told = c.trim-ascii-start-line.ensures.value in
-    let t : List ℕ = c.trim-ascii-start-line.result.now in
+    let told = c.trim_ascii_start-line.ensures.value in
+    let t : List ℕ = c.trim_ascii_start-line.result.now in
     let some : 0 < length t = grind (arith, nat_tests) in
     let behinds : Some c.in-Some.rest.now ≡ behind Blank t = search rules in
     words_skip told.0 c.args.line.now told.3 (omega (arith, told.2))
@@ -30,8 +30,8 @@ returns-in-Some c =
 
 pub returns-in-None : goal.returns-in-None
 returns-in-None c =
-    let told = c.trim-ascii-start-line.ensures.value in
-    let t : List ℕ = c.trim-ascii-start-line.result.now in
+    let told = c.trim_ascii_start-line.ensures.value in
+    let t : List ℕ = c.trim_ascii_start-line.result.now in
     let some : 0 < length t = grind (arith, nat_tests) in
     let behinds : None ≡ behind Blank t = search rules in
     words_skip told.0 c.args.line.now told.3 (omega (arith, told.2))

@@ -6,13 +6,13 @@ pub returns-in-Some : goal.returns-in-Some
 unfolding begun
 returns-in-Some c = search rules
 
-pub returns-in-default-life : goal.returns-in-default-life
+pub returns-in_default-life : goal.returns-in_default-life
 unfolding begun
-returns-in-default-life c = search rules
+returns-in_default-life c = search rules
 
-pub returns-in-default-most : goal.returns-in-default-most
+pub returns-in_default-most : goal.returns-in_default-most
 unfolding begun
-returns-in-default-most c = search rules
+returns-in_default-most c = search rules
 
 pub returns-in-Ok : goal.returns-in-Ok
 unfolding begun

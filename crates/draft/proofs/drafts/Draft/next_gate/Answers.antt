@@ -2,13 +2,13 @@ use Rattle.std.proofs.Common.{rules}
 use Rattle.draft.specs.Drafts.{next_gate}
 use Rattle.draft.proofs.drafts.Draft.next_gate.Goals as goal
 
-pub returns-in-err-plan : goal.returns-in-err-plan
+pub returns-in_err-plan : goal.returns-in_err-plan
 unfolding next_gate
-returns-in-err-plan c = search rules
+returns-in_err-plan c = search rules
 
-pub returns-in-default : goal.returns-in-default
+pub returns-in_default : goal.returns-in_default
 unfolding next_gate
-returns-in-default c = search rules
+returns-in_default c = search rules
 
 pub returns-then-number-from : goal.returns-then-number-from
 unfolding next_gate

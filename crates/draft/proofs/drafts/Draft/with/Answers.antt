@@ -1,4 +1,4 @@
-use Rattle.std.proofs.Common.{◌≡◌, length, set, Some, sym, ap, ◌∙◌, arith}
+use Rattle.std.proofs.Common.{set, Some, sym, ◌∙◌, arith}
 use Rattle.std.proofs.lemmas.List.{set_past}
 use Rattle.draft.proofs.drafts.Draft.with.Goals as goal
 use Rattle.draft.proofs.drafts.Draft.with.Goals.{then-at-lt32, else-at-lt32}

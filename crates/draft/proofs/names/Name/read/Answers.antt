@@ -1,4 +1,4 @@
-use Rattle.std.proofs.Common.{◌≡◌, ℕ, ◌-◌, ◌<◌, ◌≤◌, Bool, true, false, cond, ◌&&◌, leb, List, ◌++◌, length, drop, replicate, Some, None, sym, refl, ap, ◌∙◌, arith, rules}
+use Rattle.std.proofs.Common.{◌≡◌, ℕ, ◌<◌, ◌≤◌, Bool, true, false, cond, ◌&&◌, leb, List, ◌++◌, length, drop, replicate, Some, None, sym, ap, ◌∙◌, arith, rules}
 use Rattle.std.proofs.lemmas.List.{drop-replicate}
 use Rattle.std.proofs.lemmas.Bool.Decides.{nat_tests}
 use Rattle.draft.specs.Names.{all_name, name_of, name_read}
@@ -21,12 +21,12 @@ fits w few all = grind (arith, nat_tests)
 pub returns-then-word-gt32 : goal.returns-then-word-gt32
 returns-then-word-gt32 c = sym (tested c.args.word.now false (too_long c.args.word.now (omega arith)))
 
-pub returns-then-not-all-name : goal.returns-then-not-all-name
-returns-then-not-all-name c = sym (tested c.args.word.now false (no_name c.args.word.now (search rules)))
+pub returns-then-not-all_name : goal.returns-then-not-all_name
+returns-then-not-all_name c = sym (tested c.args.word.now false (no_name c.args.word.now (search rules)))
 
 pub returns : goal.returns
 returns c =
-    let copied : c.copy-from-slice.new.self ≡ c.args.word.now = search rules in
+    let copied : c.copy_from_slice.new.self ≡ c.args.word.now = search rules in
     (λ i. Some (record { bytes = copied i ++ drop (length c.args.word.now) (replicate 32 0); length = length c.args.word.now }))
     ∙ (λ i. Some (record { bytes = c.args.word.now ++ drop-replicate (length c.args.word.now) 32 0 i; length = length c.args.word.now }))
     ∙ sym (tested c.args.word.now true (fits c.args.word.now (omega arith) (search rules)))
