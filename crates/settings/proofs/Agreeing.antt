@@ -88,6 +88,7 @@ module _ (p : Plan) (drawn : List ℕ) (few : p.gates ≤ 32) where
         lives = λ i j less less'. ap (λ (s : Settings). s.plan.life) (at i (omega (arith, long)) ∙ refl) ∙ sym (ap (λ (s : Settings). s.plan.life) (at j (omega (arith, long))));
         mosts = λ i j less less'. ap (λ (s : Settings). s.plan.most) (at i (omega (arith, long))) ∙ sym (ap (λ (s : Settings). s.plan.most) (at j (omega (arith, long))));
         tables = λ i j less less'. ap (λ (s : Settings). s.plan.ranges) (at i (omega (arith, long))) ∙ sym (ap (λ (s : Settings). s.plan.ranges) (at j (omega (arith, long))));
+        outsides = λ i j less less'. ap (λ (s : Settings). s.plan.outside) (at i (omega (arith, long))) ∙ sym (ap (λ (s : Settings). s.plan.outside) (at j (omega (arith, long))));
         keys = λ i j less less'. ap (λ (s : Settings). key_at s j) (at i (omega (arith, long))) ∙ keys-at drawn i p.gates j (omega (arith, long)) few ∙ key-same drawn i j ∙ sym (ap (λ (s : Settings). key_at s i) (at j (omega (arith, long))) ∙ keys-at drawn j p.gates i (omega (arith, long)) few);
       }
 

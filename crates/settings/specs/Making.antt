@@ -47,7 +47,7 @@ make_fault p drawn =
 abbrev pub settings_at : List Settings → ℕ → Settings
 settings_at all i = slice_index_or all i (empty_settings 0 0 0)
 
--- settings agree: each gate has its place as its number, all have the same number of gates, life, most and ranges,
+-- settings agree: each gate has its place as its number, all have the same number of gates, life, most, ranges and addresses outside,
 -- and two gates have the same key with one another
 pub record Agree (all : List Settings) : Type 0 where
   pub numbered : (i : ℕ) → i < length all → (settings_at all i).own ≡ i
@@ -55,6 +55,7 @@ pub record Agree (all : List Settings) : Type 0 where
   pub lives : (i j : ℕ) → i < length all → j < length all → (settings_at all i).plan.life ≡ (settings_at all j).plan.life
   pub mosts : (i j : ℕ) → i < length all → j < length all → (settings_at all i).plan.most ≡ (settings_at all j).plan.most
   pub tables : (i j : ℕ) → i < length all → j < length all → (settings_at all i).plan.ranges ≡ (settings_at all j).plan.ranges
+  pub outsides : (i j : ℕ) → i < length all → j < length all → (settings_at all i).plan.outside ≡ (settings_at all j).plan.outside
   pub keys : (i j : ℕ) → i < length all → j < length all → key_at (settings_at all i) j ≡ key_at (settings_at all j) i
 
 -- each gate reads its settings from the bytes that are written of them
