@@ -1,8 +1,7 @@
 -- A plan that is read from a text is allowed. Assumes nothing.
-use Rattle.std.proofs.Common.{◌≡◌, ℕ, ◌+◌, ◌-◌, ◌%◌, ◌^◌, ◌<◌, Bool, true, false, cond, eqb, List, [], ◌∷◌, get_or, is_some, Some, None, Ok, Err, codes, Option, Result, sym, refl, ap, ◌∙◌, subst, arith}
+use Rattle.std.proofs.Common.{◌≡◌, ℕ, ◌+◌, ◌^◌, ◌<◌, Bool, true, false, cond, eqb, List, [], ◌∷◌, get_or, is_some, Some, None, Ok, Err, codes, Option, Result, refl, ap, ◌∙◌, subst, arith}
 use Rattle.std.specs.Str.{bytes_eq}
 use Rattle.protocol.specs.Limits.{life_least, most_least}
-use Rattle.addresses.specs.declared.dotted.Prefix.{Prefix}
 use Rattle.addresses.specs.declared.marks.Mark.TheVariants.{LineFeed}
 use Rattle.addresses.specs.Dotted.{address_read, prefix_read}
 use Rattle.addresses.specs.Marks.{pieces}
@@ -14,9 +13,7 @@ use Rattle.settings.specs.Plans.{new_plan, add_to}
 use Rattle.draft.specs.declared.drafts.Draft.{Draft}
 use Rattle.draft.specs.declared.faults.TextFault.{TextFault}
 use Rattle.draft.specs.declared.faults.TextFault.TheVariants.{Columns, NotNumber, Twice, NotNext, NotPrefix, NotAddress}
-use Rattle.draft.specs.declared.faults.Wrong.{Wrong}
-use Rattle.draft.specs.declared.names.Name.{Name}
-use Rattle.draft.specs.Drafts.{and_then, allowed, or_else, empty_draft, life_taken, most_taken, begun_by, begun, numbered, next_gate, new_name, grown, with_gate, gate_taken, setting_taken, columns_taken, line_taken}
+use Rattle.draft.specs.Drafts.{and_then, allowed, or_else, empty_draft, life_taken, most_taken, begun_by, begun, numbered, next_gate, new_name, grown, gate_taken, setting_taken, columns_taken, line_taken}
 use Rattle.draft.specs.Ranges.{range_of}
 use Rattle.draft.specs.Reading.{or_wrong, lines_taken, draft_read}
 use Rattle.draft.specs.Words.{words_of}

@@ -30,21 +30,21 @@ fn run(rt: &HostRuntime) -> anyhow::Result<()> {
     let mut args = env::args(rt)?;
     let _program = args.next();
     let Some(command) = args.next() else {
-        return Err(USE.into());
+        return Err(anyhow!(USE));
     };
     let Some(path) = args.next() else {
-        return Err(USE.into());
+        return Err(anyhow!(USE));
     };
     let third = args.next();
     let fourth = args.next();
     if args.next().is_some() {
-        return Err(USE.into());
+        return Err(anyhow!(USE));
     }
     match (command.as_str(), third, fourth) {
         ("make", Some(folder), drawn) => make(rt, path.as_str(), &folder, drawn),
         ("show", None, None) => show(rt, &read_settings(rt, path.as_str())?),
         ("check", None, None) => check(rt, path.as_str()),
-        _ => Err(USE.into()),
+        _ => Err(anyhow!(USE)),
     }
 }
 
