@@ -13,17 +13,19 @@ use settings::{DRAWN, MakeFault, Plan, Settings, make_all, read};
 use showing::show;
 use std::fs::File;
 use std::io::{Read, Write};
+use std::process::ExitCode;
 use std::{env, fs};
 use text::Draft;
 
 const USE: &str = "use: plan make PLAN FOLDER [DRAWN], plan show SETTINGS, plan check SETTINGS";
 
-fn main(rt: HostRuntime) -> anyhow::Result<()> {
-    let done = run(&rt);
-    if let Err(why) = &done {
-        eprintln!(rt; "plan: {why}")?;
-    }
-    done
+fn main(rt: HostRuntime) -> ExitCode {
+    let Err(why) = run(&rt) else {
+        return ExitCode::SUCCESS;
+    };
+    // Where standard error can't be written either, the status says it alone.
+    let _told = eprintln!(rt; "plan: {why}").is_ok();
+    ExitCode::FAILURE
 }
 
 fn run(rt: &HostRuntime) -> anyhow::Result<()> {
