@@ -30,6 +30,7 @@ fn quarter_line(s: &mut [u32; 16], a: usize, b: usize, d: usize, n: u32)
 }
 
 // The quarter round on the words at four places.
+#[tactic(auto, unfolding(crate::specs::ChaCha20::quarter_round))]
 fn quarter_round(s: &mut [u32; 16], a: usize, b: usize, c: usize, d: usize)
     requires { (a < 16) × ((b < 16) × ((c < 16) × (d < 16))) }
     ensures { s.new ≡ quarter_round a b c d s.old }
