@@ -110,3 +110,7 @@ start-stands k life most a =
           });
       known = λ t i. absurd (mathlib.Core.List.Memᴰ.not-nil i);
     }
+
+-- the same, of a memory that is known to be such a gate's
+pub made : (k life most a : ℕ) (s : Gateway) → s ≡ fresh a k life most → Stands k life most a s 1 empty_gate
+made k life most a s e = subst (λ z. Stands k life most a z 1 empty_gate) (sym e) (start-stands k life most a)
