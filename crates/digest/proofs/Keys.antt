@@ -56,3 +56,6 @@ limited-taken {T} n value x h = by (ltb n (2 ^ 61)) h
     by : (b : Bool) → ◌≡◌ {A = Result (Unit {0}) Fault} (Ok x) (cond b (Ok tt) (Err TooLong)) → ◌≡◌ {A = Result T Fault} (Ok value) (cond b (Ok value) (Err TooLong))
     by true e = refl
     by false e = let z : ◌≡◌ {A = ℕ} 0 1 = cc in absurd (omega arith)
+
+-- the two padded keys, for the key that is kept of them
+pub ruleset padded = (inner_pad_lem, outer_pad_lem)

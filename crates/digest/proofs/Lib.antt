@@ -2,4 +2,5 @@ mod Bytes
 mod Keys
 mod Messages
 mod Padding
+mod Parts
 mod Sums

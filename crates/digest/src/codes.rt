@@ -54,6 +54,7 @@ fn key_of(inner: &[u8; 64], outer: &[u8; 64]) -> Key
 
 impl Key {
     /// Prepares a key for many messages.
+    #[tactic(auto, using(crate::proofs::Keys::padded))]
     pub fn new(key: &[u8; 32]) -> Self
         ensures { Prepared result key.now }
     {

@@ -9,6 +9,7 @@ fn differing(before: u8, a: u8, b: u8) -> u8
 }
 
 /// Whether two sums are equal. All sixteen bytes are compared, whatever the first of them are.
+#[tactic(auto, using(crate::proofs::Sums::comparing))]
 pub fn same_sum(a: &[u8; 16], b: &[u8; 16]) -> bool
     ensures same { result ≡ true → a.now ≡ b.now }
     ensures found { a.now ≡ b.now → result ≡ true }

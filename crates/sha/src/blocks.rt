@@ -17,6 +17,7 @@ const K: [u32; 64] = [
 ];
 
 // Kt.
+#[tactic(auto, unfolding(crate::specs::Sha256::round_constants))]
 fn constant(t: usize) -> u32
     requires { t < 64 }
     ensures { result ≡ get_or round_constants t 0 }
