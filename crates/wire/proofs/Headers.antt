@@ -21,6 +21,13 @@ pub header_wrong : (own : ℕ) (there : ℕ → Bool) (w : List ℕ) (k : Kind) 
     → Err WrongGate ≡ header_in own there w
 header_wrong own there w k is wrong = sym (ap (header_as own there w) is ∙ ap (λ b. cond b (fields_in w k) (Err WrongGate)) wrong)
 
+-- both, for the functions that read a header
+pub ruleset heads = (header_right, header_wrong)
+
+-- a header that is known by its parts was read
+pub headed : (r : Result Header Refusal) (h h' : Header) → Ok h ≡ r → h ≡ h' → Ok h' ≡ r
+headed r h h' read is = sym (ap Ok is) ∙ read
+
 -- a word of a kind, by gate a, which is there, for this gate
 pub record From (own : ℕ) (there : ℕ → Bool) (w : List ℕ) (k : Kind) (a : ℕ) : Type 0 where
   pub maker : a ≡ maker_in w

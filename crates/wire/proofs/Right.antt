@@ -38,28 +38,19 @@ pub sum_none : (key w body : List ℕ) → body ≡ body_in w → false ≡ ltb 
 unfolding sum_right
 sum_none key w body e long = ap (λ b. b && same (sum_in w) (sum_of key (body_in w))) (long ∙ ap (λ x. ltb (65 + length x) (2 ^ 61)) e)
 
--- the sum found is that computed, exactly if it is right
-pub sum_found : (key w body found right : List ℕ) (r : Bool) → body ≡ body_in w → found ≡ sum_in w → true ≡ ltb (65 + length body) (2 ^ 61)
-    → Some right ≡ cond (ltb (65 + length body) (2 ^ 61)) (Some (sum_of key body)) None → (r ≡ true → found ≡ right) → (found ≡ right → r ≡ true)
-    → r ≡ sum_right key w
+-- a word that is short enough has a right sum exactly if its last bytes are the sum of all before them
+pub sum_yes : (key w : List ℕ) → ltb (65 + length (body_in w)) (2 ^ 61) ≡ true → sum_in w ≡ sum_of key (body_in w) → sum_right key w ≡ true
 unfolding sum_right
-sum_found key w body found right r is_IsBody is_found short value yes' no' =
-    let computed : Some right ≡ Some (sum_of key body) = value ∙ ap (λ b. cond b (Some (sum_of key body)) None) (sym short) in
-    let is : right ≡ sum_of key (body_in w) = cc computed in
-    let fits : true ≡ ltb (65 + length (body_in w)) (2 ^ 61) = short ∙ ap (λ x. ltb (65 + length x) (2 ^ 61)) is_IsBody in
-    by r (same (sum_in w) (sum_of key (body_in w))) (λ h. sym is_found ∙ yes' h ∙ is) (λ h. no' (is_found ∙ h ∙ sym is)) (same_true (sum_in w) (sum_of key (body_in w))) (λ e. subst (λ x. same (sum_in w) x ≡ true) e (same_refl (sum_in w)))
-    ∙ ap (λ b. b && same (sum_in w) (sum_of key (body_in w))) fits
-  where
-    by : (a b : Bool) → (a ≡ true → sum_in w ≡ sum_of key (body_in w)) → (sum_in w ≡ sum_of key (body_in w) → a ≡ true)
-        → (b ≡ true → sum_in w ≡ sum_of key (body_in w)) → (sum_in w ≡ sum_of key (body_in w) → b ≡ true) → a ≡ b
-    by true true p q s t = refl
-    by true false p q s t = sym (t (p refl))
-    by false true p q s t = q (s refl)
-    by false false p q s t = refl
+sum_yes key w short is =
+    ap (λ b. b && same (sum_in w) (sum_of key (body_in w))) short ∙ subst (λ x. same (sum_in w) x ≡ true) is (same_refl (sum_in w))
+
+pub sum_no : (key w : List ℕ) → sum_right key w ≡ true → sum_in w ≡ sum_of key (body_in w)
+unfolding sum_right
+sum_no key w right = same_true (sum_in w) (sum_of key (body_in w)) (grind (arith, nat_tests))
 
 -- the last 16 bytes of a word
-pub sum_part : (w : List ℕ) → 16 ≤ length w → take (length w - 16 + 16 - (length w - 16)) (drop (length w - 16) w) ≡ sum_in w
-sum_part w long = take_all _ (drop (length w - 16) w) (simp length-drop (omega arith))
+pub sum_part : (w : List ℕ) (n : ℕ) → 16 ≤ n → 16 ≤ length w → take n (drop (length w - 16) w) ≡ sum_in w
+sum_part w n all long = take_all n (drop (length w - 16) w) (simp length-drop (omega arith))
 
 -- the sum that is computed
 pub sum_computed : (key body right : List ℕ) → true ≡ ltb (65 + length body) (2 ^ 61)
@@ -67,3 +58,6 @@ pub sum_computed : (key body right : List ℕ) → true ≡ ltb (65 + length bod
 sum_computed key body right short value =
     let computed : Some right ≡ Some (sum_of key body) = value ∙ ap (λ b. cond b (Some (sum_of key body)) None) (sym short) in
     cc computed
+
+-- for the function that looks whether a sum is right
+pub ruleset checking = (sum_none, sum_yes, sum_no, sum_part)

@@ -27,6 +27,7 @@ fn fields(word: &[u8], kind: Kind) -> Result<Header, Refusal>
 /// The clear bytes of a word that came to gate `own` of so many gates. Refuses, in this order, a
 /// word of unknown kind or length, one that isn't for this gate or isn't by another one that is
 /// there, and a tag of 0 in a word of a talk. It changes nothing.
+#[tactic(auto, using(crate::proofs::Headers::heads))]
 pub fn read_header(word: &[u8], own: u8, gates: u8) -> Result<Header, Refusal>
     ensures { result ≡ header_in own (another own gates) word.now }
 {
@@ -44,6 +45,7 @@ pub fn read_header(word: &[u8], own: u8, gates: u8) -> Result<Header, Refusal>
 }
 
 // The clear bytes of a word that one gate made for another. Refuses as `read_header` does.
+#[tactic(auto, using(crate::proofs::Headers::heads))]
 pub(crate) fn header_between(word: &[u8], peer: u8, own: u8) -> Result<Header, Refusal>
     ensures { result ≡ header_in own (λ a. nat_eq a peer) word.now }
 {

@@ -16,6 +16,7 @@ pub(crate) fn number_at(bytes: &[u8], at: usize) -> u64
 }
 
 // Two numbers, one after the other.
+#[tactic(auto, unfolding(crate::specs::Numbers::bytes8))]
 pub(crate) fn two_numbers(first: u64, second: u64) -> [u8; 16]
     ensures { result ≡ bytes8 first ++ bytes8 second }
 {
@@ -26,6 +27,7 @@ pub(crate) fn two_numbers(first: u64, second: u64) -> [u8; 16]
 }
 
 // The nonce of a number in a talk.
+#[tactic(auto, unfolding(crate::specs::Numbers::bytes8))]
 pub(crate) fn number_nonce(number: u64) -> [u8; NONCE]
     ensures { result ≡ number_nonce number }
 {

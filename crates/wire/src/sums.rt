@@ -25,6 +25,7 @@ fn code_of(hash: &Key, message: &[u8]) -> [u8; 32]
 }
 
 // The cipher's key for words of a kind from one gate for another.
+#[tactic(auto, unfolding(crate::specs::Keys::turn_key))]
 pub(crate) fn cipher_key(hash: &Key, kind: Kind, maker: u8, opener: u8) -> [u8; 32]
     ensures { (key : List ℕ) → Prepared hash.now key → result ≡ turn_key key (kind_byte kind) maker opener }
 {
@@ -32,6 +33,7 @@ pub(crate) fn cipher_key(hash: &Key, kind: Kind, maker: u8, opener: u8) -> [u8; 
 }
 
 // The key of the talk with these tags, under the pair's key.
+#[tactic(auto, unfolding(crate::specs::Keys::talk_key))]
 pub(crate) fn talk_key(hash: &Key, one: u64, other: u64) -> [u8; 32]
     ensures { (key : List ℕ) → Prepared hash.now key → result ≡ talk_key key one other }
 {
@@ -61,6 +63,7 @@ pub(crate) fn sum_of(hash: &Key, body: &[u8]) -> Option<[u8; SUM]>
 }
 
 // Whether the sum at a word's end is that of all before it.
+#[tactic(auto, using(crate::proofs::Right::checking))]
 pub(crate) fn sum_right(hash: &Key, word: &[u8]) -> bool
     requires { 16 ≤ length word.now }
     ensures { (key : List ℕ) → Prepared hash.now key → result ≡ sum_right key word.now }
