@@ -37,11 +37,11 @@ module _ (m : Mark) (t : List ℕ) (at : ℕ) (clear : Clear m t at) (more : at 
       ∙ ap (λ b. cond b (Some (drop (at + 1) t)) (behind m (drop (at + 1) t))) here
 
 module _ (m : Mark) (t : List ℕ) (at : ℕ) (clear : Clear m t at) (end : length t ≤ at) where
-  pub front-all : front m t ≡ t
-  front-all = clear.fronts ∙ ap (λ l. take at t ++ front m l) (drop_all at t end) ∙ append-nil (take at t) ∙ take_all at t end
+  pub front_all : front m t ≡ t
+  front_all = clear.fronts ∙ ap (λ l. take at t ++ front m l) (drop_all at t end) ∙ append-nil (take at t) ∙ take_all at t end
 
-  pub behind-none : behind m t ≡ None
-  behind-none = clear.behinds ∙ ap (behind m) (drop_all at t end)
+  pub behind_none : behind m t ≡ None
+  behind_none = clear.behinds ∙ ap (behind m) (drop_all at t end)
 
 -- the parts behind the first one
 abbrev pub others : Mark → Option (List ℕ) → List (List ℕ)

@@ -5,9 +5,9 @@ use Rattle.std.proofs.lemmas.Bool.Decides.{nat_tests}
 use Rattle.std.specs.Char.{is_ascii_digit}
 use Rattle.addresses.specs.Numbers.{digits_from, unfit, number_read}
 
-pub unfit-none : (limit : ℕ) (t : List ℕ) → unfit t ≡ true → number_read limit t ≡ None
+pub unfit_none : (limit : ℕ) (t : List ℕ) → unfit t ≡ true → number_read limit t ≡ None
 unfolding number_read
-unfit-none limit t bad = ap (λ b. cond b None (digits_from limit 0 t)) bad
+unfit_none limit t bad = ap (λ b. cond b None (digits_from limit 0 t)) bad
 
 pub fit_is : (limit : ℕ) (t : List ℕ) → unfit t ≡ false → number_read limit t ≡ digits_from limit 0 t
 unfolding number_read

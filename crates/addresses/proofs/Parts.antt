@@ -1,6 +1,5 @@
 -- How an address is read part by part. Assumes nothing.
-use Rattle.std.proofs.Common.{◌≡◌, ℕ, zero, suc, ◌+◌, ◌*◌, ◌^◌, ◌<◌, true, false, List, [], is_some, Some, None, Option, sym, refl, ap, ◌∙◌, arith}
-use Rattle.std.specs.Option.{option_map}
+use Rattle.std.proofs.Common.{◌≡◌, ℕ, zero, suc, ◌+◌, ◌*◌, ◌^◌, ◌<◌, List, [], Some, None, Option, refl, ap, ◌∙◌, arith}
 use Rattle.addresses.specs.declared.marks.Mark.TheVariants.{Dot}
 use Rattle.addresses.specs.Dotted.{and_then, bytes_read}
 use Rattle.addresses.specs.Marks.{front, behind, pieces}
@@ -61,12 +60,3 @@ room_more n (suc zero) b small less byte = omega arith
 room_more n (suc (suc zero)) b small less byte = omega arith
 room_more n (suc (suc (suc zero))) b small less byte = omega arith
 room_more n (suc (suc (suc (suc i)))) b small less byte = absurd (omega arith)
-
--- what stands behind, by whether it is there
-pub behind-some : {X : Type 0} (f : X → List ℕ) (o : Option X) (b : Option (List ℕ)) → is_some o ≡ true → option_map f o ≡ b → (u : List ℕ) × (b ≡ Some u)
-behind-some f None b there is = absurd (let z : ◌≡◌ {A = ℕ} 0 1 = cc in omega arith)
-behind-some f (Some x) b there is = (f x, sym is)
-
-pub behind-none : {X : Type 0} (f : X → List ℕ) (o : Option X) (b : Option (List ℕ)) → is_some o ≡ false → option_map f o ≡ b → b ≡ None
-behind-none f None b gone is = sym is
-behind-none f (Some x) b gone is = absurd (let z : ◌≡◌ {A = ℕ} 0 1 = cc in omega arith)

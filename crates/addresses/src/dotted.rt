@@ -16,6 +16,7 @@ pub struct Prefix {
 
 /// The address that a text is, written A.B.C.D with four numbers of 0 to 255, or none. It changes
 /// nothing.
+#[tactic(auto, using(crate::proofs::Parts::part_bad, crate::proofs::Parts::part_last, crate::proofs::Parts::part_over, crate::proofs::Parts::room), unfolding(crate::specs::Dotted::address_read))]
 pub fn read_address(text: &[u8]) -> Option<u32>
     ensures { result ≡ address_read text.now }
 {
@@ -43,6 +44,7 @@ pub fn read_address(text: &[u8]) -> Option<u32>
 }
 
 /// The prefix that a text is, written A.B.C.D/N with N of 0 to 32, or none. It changes nothing.
+#[tactic(auto, unfolding(crate::specs::Dotted::prefix_read))]
 pub fn read_prefix(text: &[u8]) -> Option<Prefix>
     ensures value { result ≡ prefix_read text.now }
     ensures within { IfSome result (λ p. p.bits ≤ 32) }

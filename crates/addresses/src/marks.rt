@@ -32,6 +32,7 @@ impl Mark {
 
 /// The text before its first mark, and what stands behind that; all of it and none where there is
 /// no mark. It changes nothing.
+#[tactic(auto, using(crate::proofs::Cutting::front_found, crate::proofs::Cutting::behind_found, crate::proofs::Cutting::clear_more, crate::proofs::Cutting::front_all, crate::proofs::Cutting::behind_none))]
 pub fn cut(text: &[u8], mark: Mark) -> (&[u8], Option<&[u8]>)
     ensures front { result.0.now ≡ front mark text.now }
     ensures behind { option_map (λ x. x.now) result.1 ≡ behind mark text.now }

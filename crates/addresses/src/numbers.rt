@@ -14,6 +14,7 @@ fn is_unfit(text: &[u8]) -> bool
 
 /// The number that a text is in decimal digits, with no zero in front of another digit. None where
 /// it is no such number, or one above the limit. It changes nothing.
+#[tactic(auto, using(crate::proofs::Digits::unfit_none, crate::proofs::Digits::fit_is, crate::proofs::Digits::digit_bad, crate::proofs::Digits::digit_over, crate::proofs::Digits::digit_more, crate::proofs::Digits::digit_end))]
 pub fn read_number(text: &[u8], limit: u32) -> Option<u32>
     ensures value { result ≡ number_read limit text.now }
     ensures within { IfSome result (λ n. n ≤ limit) }

@@ -1,6 +1,6 @@
 -- Zeros at the front of bytes, and the first byte that is none. Assumes nothing.
-use Rattle.std.proofs.Common.{◌≡◌, ℕ, zero, suc, ◌+◌, ◌-◌, ◌<◌, ◌≤◌, Bool, true, false, cond, eqb, List, [], ◌∷◌, length, get_or, drop, Some, None, Option, sym, refl, ap, ◌∙◌, subst, add-one, arith, length-drop, get_or-drop, drop-cons}
-use Rattle.std.proofs.lemmas.Bool.{leb-true, lt-leb, le-leb, cond-true, cond-false}
+use Rattle.std.proofs.Common.{◌≡◌, ℕ, zero, suc, ◌+◌, ◌-◌, ◌<◌, ◌≤◌, Bool, true, false, cond, eqb, List, [], ◌∷◌, length, get_or, drop, Some, None, Option, sym, refl, ap, subst, add-one, arith, length-drop, get_or-drop, drop-cons}
+use Rattle.std.proofs.lemmas.Bool.{leb-true}
 use Rattle.std.proofs.lemmas.Bool.Decides.{nat_tests}
 use Rattle.drawn.specs.declared.state.Draw.{Draw}
 use Rattle.drawn.specs.Draws.{zeros, passed_over, tag_at, draw_at, draw_of, spent_of, from_tag, enough, TagsAreTags}
@@ -63,19 +63,3 @@ not_zero bytes d e = drawn (enough bytes) refl e
 pub tags_are_tags : TagsAreTags
 unfolding draw_of spent_of zeros
 tags_are_tags = record { not_zero = not_zero; passes = refl; takes = refl; none = refl; short = (refl, refl) }
-
--- What is drawn and taken where there is too little,
-pub too_little : (xs : List ℕ) (start : ℕ) → start ≡ passed_over xs → length xs - start < 24 → (None ≡ draw_of xs) × (0 ≡ spent_of xs)
-unfolding draw_of spent_of
-too_little xs start e h =
-    let q : enough xs ≡ false = lt-leb 24 (length (from_tag xs)) (simp length-drop (omega arith)) in
-    (sym (cond-false (enough xs) (Some (draw_at (from_tag xs))) None q), sym (cond-false (enough xs) (passed_over xs + 24) 0 q))
-
--- and where there is enough.
-pub plenty : (xs : List ℕ) (start : ℕ) → start ≡ passed_over xs → 24 ≤ length xs - start → (Some (draw_at (drop start xs)) ≡ draw_of xs) × (start + 24 ≡ spent_of xs)
-unfolding draw_of spent_of
-plenty xs start e h =
-    let q : enough xs ≡ true = le-leb 24 (length (from_tag xs)) (simp length-drop (omega arith)) in (
-      ap (λ (k : ℕ). Some (draw_at (drop k xs))) e ∙ sym (cond-true (enough xs) (Some (draw_at (from_tag xs))) None q),
-      ap (λ (k : ℕ). k + 24) e ∙ sym (cond-true (enough xs) (passed_over xs + 24) 0 q),
-    )

@@ -55,6 +55,7 @@ fn draw_of(bytes: &[u8]) -> Draw
 }
 
 /// What is drawn for one word, if there is enough.
+#[tactic(auto, unfolding(crate::specs::Draws::draw_of))]
 fn first_draw(bytes: &[u8]) -> Option<Draw>
     ensures { result ≡ draw_of bytes.now }
 {
@@ -66,6 +67,7 @@ fn first_draw(bytes: &[u8]) -> Option<Draw>
 }
 
 /// How many bytes that takes.
+#[tactic(auto, unfolding(crate::specs::Draws::spent_of))]
 fn spent_on(bytes: &[u8]) -> usize
     ensures value { result ≡ spent_of bytes.now }
     ensures within { result ≤ length bytes.now }

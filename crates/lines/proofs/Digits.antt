@@ -1,5 +1,5 @@
 -- What one turn of reading and of writing hex digits does, and that they are inverse. Assumes nothing.
-use Rattle.std.proofs.Common.{◌≡◌, ℕ, ◌+◌, ◌*◌, ◌/◌, ◌%◌, ◌<◌, ◌≤◌, List, [], ◌∷◌, ◌++◌, length, get_or, drop, Some, None, Ok, Err, Result, sym, refl, ap, ◌∙◌, append_assoc, append-nil, arith}
+use Rattle.std.proofs.Common.{◌≡◌, ℕ, ◌+◌, ◌*◌, ◌/◌, ◌%◌, ◌<◌, List, [], ◌∷◌, ◌++◌, length, get_or, drop, Some, None, Ok, Err, Result, sym, refl, ap, ◌∙◌, append_assoc, arith}
 use Rattle.std.proofs.lemmas.List.{drop_more, drop_all}
 use Rattle.std.proofs.lemmas.Bool.Decides.{nat_tests}
 use Rattle.lines.specs.declared.faults.LineFault.{LineFault}
@@ -19,9 +19,6 @@ module _ (out : List ℕ) (at : ℕ) (line : List ℕ) where
   -- what was read so far, before what the line stands for from here on
   abbrev pub sofar : Result (List ℕ) LineFault
   sofar = onto out (decoded (at + 1) (drop at line))
-
-  pub at-end : length line ≤ at → sofar ≡ Ok out
-  at-end past = ap (λ t. onto out (decoded (at + 1) t)) (drop_all at line past) ∙ ap Ok (append-nil out)
 
   pub bad_high : at < length line → digit_value (get_or line at 0) ≡ None → sofar ≡ Err (NotHex (at + 1))
   bad_high more bad =

@@ -31,6 +31,7 @@ fn digit_byte(value: u8) -> u8
 }
 
 /// The bytes as hex digits in lower case, two for each. Refuses only for want of memory.
+#[tactic(auto, using(crate::proofs::Digits::byte_written))]
 pub fn encode(heap: Global, bytes: &[u8]) -> Result<Vec<u8>, AllocError>
     ensures { IfOk result (λ v. v.items ≡ encoded bytes.now) }
 {
@@ -45,6 +46,7 @@ pub fn encode(heap: Global, bytes: &[u8]) -> Result<Vec<u8>, AllocError>
 /// The bytes that the hex digits of a line from `start` on stand for, in either case. Refuses the
 /// first character that is no hex digit, with its column, and then a digit that has no second
 /// one. It changes nothing.
+#[tactic(auto, using(crate::proofs::Digits::bad_high, crate::proofs::Digits::no_low, crate::proofs::Digits::bad_low, crate::proofs::Digits::pair_read))]
 pub fn decode(heap: Global, line: &[u8], start: usize) -> Result<Vec<u8>, LineFault>
     ensures { Decodes (decoded (start + 1) (drop start line.now)) result }
 {

@@ -3,7 +3,7 @@ use Rattle.addresses.specs.declared.marks.Mark.TheVariants.{Dot}
 use Rattle.addresses.specs.Dotted.{address_read, bytes_read}
 use Rattle.addresses.specs.Marks.{front, behind, pieces}
 use Rattle.addresses.specs.Numbers.{number_read}
-use Rattle.addresses.proofs.Parts.{part_end, part_bad, part_more, part_last, part_over, room, room_more, behind-some, behind-none}
+use Rattle.addresses.proofs.Parts.{part_end, part_bad, part_more, room, room_more}
 use Rattle.addresses.proofs.dotted.read_address.Goals as goal
 
 pub returns-in_default : goal.returns-in_default
@@ -12,13 +12,6 @@ returns-in_default c =
     let none : behind Dot c.loop-turn.rest.now ≡ None = search rules in
     let at : suc (suc (2 - c.loop-turn.turn)) ≡ 4 - c.loop-turn.turn = omega arith in
     sym (sym c.loop-turn.invariant.0 ∙ ap (λ k. bytes_read k c.loop-turn.address (pieces Dot c.loop-turn.rest.now)) (sym at) ∙ part_end c.loop-turn.address c.loop-turn.rest.now (2 - c.loop-turn.turn) none)
-
-pub returns-in_default-read_number : goal.returns-in_default-read_number
-unfolding address_read
-returns-in_default-read_number c =
-    let bad : number_read 255 (front Dot c.loop-turn.rest.now) ≡ None = search rules in
-    let at : suc (3 - c.loop-turn.turn) ≡ 4 - c.loop-turn.turn = omega arith in
-    sym (sym c.loop-turn.invariant.0 ∙ ap (λ k. bytes_read k c.loop-turn.address (pieces Dot c.loop-turn.rest.now)) (sym at) ∙ part_bad c.loop-turn.address c.loop-turn.rest.now (3 - c.loop-turn.turn) bad)
 
 pub overflow_mul-address : goal.overflow_mul-address
 overflow_mul-address c = omega (arith, room c.loop-turn.address c.loop-turn.turn c.loop-turn.invariant.1 (omega arith))
@@ -40,31 +33,9 @@ loop-turn-preserved c =
       room_more c.loop-turn.address c.loop-turn.turn c.in-Some-read_number.byte c.loop-turn.invariant.1 (omega arith) (omega (arith, c.in-Some-read_number.ensures.within)),
     )
 
-pub returns-then-is_some : goal.returns-then-is_some
-unfolding address_read
-returns-then-is_some c =
-    let some = behind-some (λ x. x.now) c.cut-2.result.1 (behind Dot c.loop-turn.rest.now) (search rules) c.cut-2.ensures.behind in
-    let at : 4 - c.loop-turn.turn ≡ 1 = omega arith in
-    sym (sym c.loop-turn.invariant.0 ∙ ap (λ k. bytes_read k c.loop-turn.address (pieces Dot c.loop-turn.rest.now)) at ∙ part_over c.loop-turn.address c.loop-turn.rest.now some.0 some.1)
-
 pub returns-in_default-read_number-2 : goal.returns-in_default-read_number-2
 unfolding address_read
 returns-in_default-read_number-2 c =
     let bad : number_read 255 (front Dot c.loop-turn.rest.now) ≡ None = search rules in
     let at : 4 - c.loop-turn.turn ≡ 1 = omega arith in
     sym (sym c.loop-turn.invariant.0 ∙ ap (λ k. bytes_read k c.loop-turn.address (pieces Dot c.loop-turn.rest.now)) at ∙ part_bad c.loop-turn.address c.loop-turn.rest.now 0 bad)
-
-pub overflow_mul-result : goal.overflow_mul-result
-overflow_mul-result c = omega (arith, room c.loop-turn.address c.loop-turn.turn c.loop-turn.invariant.1 (omega arith))
-
-pub overflow_add-result : goal.overflow_add-result
-overflow_add-result c =
-    omega (arith, room c.loop-turn.address c.loop-turn.turn c.loop-turn.invariant.1 (omega arith), c.in-Some-read_number-2.ensures.within)
-
-pub returns : goal.returns
-unfolding address_read
-returns c =
-    let good : number_read 255 (front Dot c.loop-turn.rest.now) ≡ Some c.in-Some-read_number-2.byte = search rules in
-    let none : behind Dot c.loop-turn.rest.now ≡ None = behind-none (λ x. x.now) c.cut-2.result.1 (behind Dot c.loop-turn.rest.now) (search rules) c.cut-2.ensures.behind in
-    let at : 4 - c.loop-turn.turn ≡ 1 = omega arith in
-    sym (sym c.loop-turn.invariant.0 ∙ ap (λ k. bytes_read k c.loop-turn.address (pieces Dot c.loop-turn.rest.now)) at ∙ part_last c.loop-turn.address c.loop-turn.rest.now c.in-Some-read_number-2.byte good none)
