@@ -1,9 +1,9 @@
 -- What a gate's code must be, for the promise to hold of it: its memory, its calls, for which abstract gate a memory stands, and which events each call is.
 -- Assumes nothing.
-use Rattle.std.specs.Prelude.{◌≡◌, ℕ, zero, suc, ◌<◌, true, false, List, [], ◌∷◌, ◌++◌, ◌≢◌}
+use Rattle.std.specs.Prelude.{◌≡◌, ℕ, zero, suc, ◌<◌, ◌≤◌, Bool, true, false, List, [], ◌∷◌, ◌++◌, length, ◌≢◌, slice_index}
 use Rattle.gates.specs.Lists.{At}
 use Rattle.gates.specs.Talk.{Rules, is_in}
-use Rattle.gates.specs.World.{Word, Gate, Note, World, Ev, Tick, Greets, Puts, Lies, Brings, Restarts, Drops, Stays, changed, empty_gate, is_new, world}
+use Rattle.gates.specs.World.{Word, Hello, Reply, Packet, Empty, Gate, Note, World, Ev, Tick, Greets, Puts, Lies, Brings, Restarts, Drops, Stays, changed, empty_gate, is_new, world}
 use Rattle.gates.specs.Promise.{lied, GreetsBelow}
 
 -- What a call did: the memory after it; the words that went out, what was put in and what came out by it, and the tags that it drew, each latest first.
@@ -57,14 +57,32 @@ pub record Shape (S C : Type 0) : Type 0 where
   -- the events, latest first, that a call is, and that a word brought from this place of the net is
   pub doing : (a : ℕ) → C → S → List Ev
   pub hearing : (a : ℕ) → Word → (tags : List ℕ) → S → (place : ℕ) → List Ev
+  -- the call that a tick is, with the tags at hand; and the gates that it greets by itself, by the memory before it
+  pub ticks : (tags : List ℕ) → C
+  pub greets : S → List ℕ
+
+-- the gates that hellos are for, the earliest first, of words that stand latest first
+unfoldable pub greeted : List Word → List ℕ
+greeted [] = []
+greeted (Hello a e t n ∷ ws) = greeted ws ++ (e ∷ [])
+greeted (Reply a e t k ∷ ws) = greeted ws
+greeted (Packet a e m h n x ∷ ws) = greeted ws
+greeted (Empty a e m h n ∷ ws) = greeted ws
+
+-- there are so many tags, and none is 0
+pub record Enough (n : ℕ) (tags : List ℕ) : Type 0 where
+  pub many : n ≤ length tags
+  pub nonzero : (i : ℕ) → i < length tags → slice_index tags i ≢ 0
 
 -- What code must be. Stands: for which clock and abstract gate a memory stands; a relation, since code forgets what can no longer matter.
 pub record Code (r : Rules) {S C : Type 0} (c : Shape S C) (Stands : (a : ℕ) → S → ℕ → Gate → Type 0) : Type 0 where
   pub first_stands : (a : ℕ) → a < c.gates → Stands a (c.first a) 1 empty_gate
   pub doing_own : (a : ℕ) (x : C) (s : S) (now : ℕ) (g : Gate) → Stands a s now g → AllOfGate c.gates a (c.doing a x s)
   pub hearing_own : (a : ℕ) (x : Word) (ts : List ℕ) (s : S) (i now : ℕ) (g : Gate) → Stands a s now g → AllOfGate c.gates a (c.hearing a x ts s i)
+  -- at a tick hellos go to just these gates, while there are tags
+  pub greets_so : (a : ℕ) (ts : List ℕ) (s : S) (now : ℕ) (g : Gate) → Stands a s now g → Enough (length (c.greets s)) ts → greeted (c.does a (c.ticks ts) s).sent ≡ c.greets s
   -- a word that is brought is delivered: so what the promise says of deliveries, it says of this code
-  pub hearing_brings : (a : ℕ) (x : Word) (ts : List ℕ) (s : S) (i : ℕ) → (t : ℕ) × (earlier : List Ev) × (c.hearing a x ts s i ≡ Brings a i t ∷ earlier)
+  pub hearing_brings : (a : ℕ) (x : Word) (ts : List ℕ) (s : S) (i : ℕ) → (t : ℕ) × (later : List Ev) × (earlier : List Ev) × (c.hearing a x ts s i ≡ later ++ (Brings a i t ∷ earlier))
   -- in every run of gates that are there, and whose gate a the memory stands for, the call does what those events do
   pub does_so : (es : List Ev) (a : ℕ) (x : C) (s : S) → a < c.gates → GreetsBelow c.gates es → Stands a s ((world r es).now a) ((world r es).gates a) → AllNew (c.offers x) (world r es) →
       Follows (Stands a) a (world r es) (world r (c.doing a x s ++ es)) (c.does a x s)

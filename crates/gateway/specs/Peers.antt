@@ -1,5 +1,5 @@
 -- What a gate remembers of one other gate, and how it changes. Assumes nothing.
-use Rattle.std.specs.Prelude.{ℕ, ◌+◌, ◌%◌, Bool, ◌&&◌, List, ◌∷◌, take, replicate, is_some, Some, None, Option, ◌==◌, nat_eq, nat_le, slice_set}
+use Rattle.std.specs.Prelude.{ℕ, ◌+◌, ◌-◌, ◌%◌, Bool, true, false, ◌&&◌, List, ◌∷◌, take, replicate, is_some, Some, None, Option, ◌==◌, nat_le, slice_set}
 use Rattle.gateway.specs.declared.state.Talk.{Talk}
 use Rattle.gateway.specs.declared.state.Wait.{Wait}
 use Rattle.gateway.specs.declared.state.Peer.{Peer}
@@ -8,17 +8,36 @@ use Rattle.gateway.specs.Talks.{may_send, names}
 
 -- A gate of which nothing is known.
 abbrev pub unknown : Peer
-unknown = record { talks = replicate 3 None; waits = replicate 6 None; last_hello = 0 }
+unknown =
+    record { talks = replicate 3 None; waits = replicate 6 None; last_hello = 0; heard = 0; greeted = 0; unanswered = false; waiting = 0 }
 
 -- What is left of it after a restart: the tick of the last hello taken.
 abbrev pub forgotten : Peer → Peer
-forgotten p = record { talks = replicate 3 None; waits = replicate 6 None; last_hello = p.last_hello }
+forgotten p =
+    record { talks = replicate 3 None; waits = replicate 6 None; last_hello = p.last_hello; heard = 0; greeted = 0; unanswered = false; waiting = 0 }
 
 abbrev pub with_talks : List (Option Talk) → Peer → Peer
-with_talks ts p = record { talks = ts; waits = p.waits; last_hello = p.last_hello }
+with_talks ts p =
+    record { talks = ts; waits = p.waits; last_hello = p.last_hello; heard = p.heard; greeted = p.greeted; unanswered = p.unanswered; waiting = p.waiting }
 
 abbrev pub with_waits : List (Option Wait) → Peer → Peer
-with_waits ws p = record { talks = p.talks; waits = ws; last_hello = p.last_hello }
+with_waits ws p =
+    record { talks = p.talks; waits = ws; last_hello = p.last_hello; heard = p.heard; greeted = p.greeted; unanswered = p.unanswered; waiting = p.waiting }
+
+-- so many packets wait for it
+abbrev pub with_waiting : ℕ → Peer → Peer
+with_waiting n p =
+    record { talks = p.talks; waits = p.waits; last_hello = p.last_hello; heard = p.heard; greeted = p.greeted; unanswered = p.unanswered; waiting = n }
+
+-- A word of it was taken: nothing that was sent to it is unanswered.
+abbrev pub heard_now : (now : ℕ) → Peer → Peer
+heard_now now p =
+    record { talks = p.talks; waits = p.waits; last_hello = p.last_hello; heard = now; greeted = p.greeted; unanswered = false; waiting = p.waiting }
+
+-- A packet was sent to it.
+abbrev pub addressed : Peer → Peer
+addressed p =
+    record { talks = p.talks; waits = p.waits; last_hello = p.last_hello; heard = p.heard; greeted = p.greeted; unanswered = true; waiting = p.waiting }
 
 -- The talk that these two tags name.
 abbrev pub talk_named : (mine theirs : ℕ) → Peer → Option Talk
@@ -59,10 +78,15 @@ has_tag t x = x.tag == t
 abbrev pub answered : (tag : ℕ) → Peer → Peer
 answered t p = with_waits (cleared (has_tag t) p.waits) p
 
--- A hello waits, in the place of its tick: what stood there was said six ticks before or more, and can no longer be answered.
+-- A hello of this tick waits, in the place of its tick: what stood there was said six ticks before or more, and can no longer be answered.
 abbrev pub asked : (tag at : ℕ) → Peer → Peer
-asked t n p = with_waits (slice_set p.waits (n % 6) (Some (record { tag = t; at = n }))) p
-
--- A hello of this tick waits for its reply.
-abbrev pub is_greeted : (now : ℕ) → Peer → Bool
-is_greeted now p = is_some (first_that (λ x. nat_eq x.at now) p.waits)
+asked t n p =
+    record {
+      talks = p.talks;
+      waits = slice_set p.waits (n % 6) (Some (record { tag = t; at = n }));
+      last_hello = p.last_hello;
+      heard = p.heard;
+      greeted = n;
+      unanswered = p.unanswered;
+      waiting = p.waiting;
+    }

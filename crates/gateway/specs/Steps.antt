@@ -1,7 +1,9 @@
 -- What each call of a gate answers, and what it leaves in memory. A refusal leaves everything as it was. Assumes nothing.
-use Rattle.std.specs.Prelude.{ℕ, ◌+◌, ◌-◌, ◌^◌, min, Bool, true, false, cond, not, ◌&&◌, ◌||◌, List, [], map, replicate, Some, None, Ok, Err, Option, Result, ◌==◌, nat_le, nat_lt, slice_index_or, slice_set}
+use Rattle.std.specs.Prelude.{ℕ, zero, suc, ◌+◌, ◌-◌, ◌^◌, min, Bool, true, false, cond, not, ◌&&◌, ◌||◌, List, [], ◌∷◌, ◌++◌, map, replicate, Some, None, Ok, Err, Option, Result, ◌==◌, nat_le, nat_lt, slice_index_or, slice_set}
 use Rattle.protocol.specs.declared.refusals.Refusal.{Refusal}
-use Rattle.protocol.specs.declared.refusals.Refusal.TheVariants.{WrongGate, ZeroTag, OldHello, UnaskedReply, NoTalk, BelowWindow, RepeatedNumber, ForeignAddress, NoRoute, NoDrawnBytes}
+use Rattle.protocol.specs.declared.refusals.Refusal.TheVariants.{WrongGate, ZeroTag, OldHello, UnaskedReply, NoTalk, BelowWindow, RepeatedNumber, ForeignAddress, NoRoute, QueueFull, NoDrawnBytes}
+use Rattle.protocol.specs.Limits.{gates_limit, talks_limit, queue_limit}
+use Rattle.gates.specs.Timer.{Timer, Deed, Ticks, due}
 use Rattle.window.specs.declared.state.Verdict.{Verdict}
 use Rattle.window.specs.declared.state.Verdict.TheVariants.{Fresh, TooOld, Came}
 use Rattle.window.specs.Heard.{look_bits}
@@ -13,7 +15,8 @@ use Rattle.gateway.specs.declared.state.Word.TheVariants.{Hello, Reply, Packet, 
 use Rattle.gateway.specs.declared.state.Taken.{Taken}
 use Rattle.gateway.specs.declared.state.Taken.TheVariants.{Answer, Sure, Out, Alive}
 use Rattle.gateway.specs.Talks.{fresh_talk, lives, heard_one, sent_one}
-use Rattle.gateway.specs.Peers.{unknown, forgotten, talk_named, for_sending, stored, met, is_asked, answered, asked, is_greeted}
+use Rattle.gateway.specs.Peers.{unknown, forgotten, with_waiting, heard_now, addressed, talk_named, for_sending, stored, met, is_asked, answered, asked}
+use Rattle.gateway.specs.Rules.{if_idle, timer_of, aged}
 
 -- A gate that was just made, at its first tick.
 abbrev pub fresh : (own gates life most : ℕ) → Gateway
@@ -22,7 +25,7 @@ fresh own gates life most =
 
 -- what is read past the last peer
 abbrev pub blank : Peer
-blank = record { talks = []; waits = []; last_hello = 0 }
+blank = record { talks = []; waits = []; last_hello = 0; heard = 0; greeted = 0; unanswered = false; waiting = 0 }
 
 -- What is remembered of gate e.
 abbrev pub peer_at : ℕ → Gateway → Peer
@@ -65,7 +68,15 @@ hello_fault by to tag at' drawn s =
 -- A hello was taken: a talk of which this gate is not sure, and the hello's tick is the last.
 abbrev pub hello_peer : (tag at drawn now : ℕ) → Peer → Peer
 hello_peer tag at' drawn now p =
-    record { talks = (met (fresh_talk drawn tag now false) p).talks; waits = p.waits; last_hello = at' }
+    record {
+      talks = (met (fresh_talk drawn tag now false) p).talks;
+      waits = p.waits;
+      last_hello = at';
+      heard = now;
+      greeted = p.greeted;
+      unanswered = false;
+      waiting = p.waiting;
+    }
 
 -- The first fault of a reply.
 abbrev pub reply_fault : (by to tag answers : ℕ) → Gateway → Option Refusal
@@ -77,7 +88,7 @@ reply_fault by to tag answers s =
 
 -- A reply was taken: a talk of which this gate is sure, and the hello waits no longer.
 abbrev pub reply_peer : (tag answers now : ℕ) → Peer → Peer
-reply_peer tag answers now p = met (fresh_talk answers tag now true) (answered answers p)
+reply_peer tag answers now p = heard_now now (met (fresh_talk answers tag now true) (answered answers p))
 
 -- the talk, if its window lets a number come
 abbrev pub by_verdict : Verdict → Talk → Result Talk Refusal
@@ -114,7 +125,7 @@ taken x (Err f) = Err f
 
 -- A word of a talk was taken: its number came.
 abbrev pub heard_after : (by number : ℕ) → Gateway → Result Talk Refusal → Gateway
-heard_after by n s (Ok t) = storing by (stored (heard_one n t) (peer_at by s)) s
+heard_after by n s (Ok t) = storing by (heard_now s.now (stored (heard_one s.now n t) (peer_at by s))) s
 heard_after by n s (Err f) = s
 
 -- WHAT A WORD THAT IS BROUGHT IS ANSWERED.
@@ -133,34 +144,83 @@ took_after (Reply by to tag answers) drawn s =
 took_after (Packet by to m h n source goal) drawn s = heard_after by n s (packet_talk by to m h n source goal s)
 took_after (Empty by to m h n) drawn s = heard_after by n s (found_talk by to m h n s)
 
--- The first fault of a packet that is put in, by the owners of its source and its destination.
-abbrev pub put_fault : (source goal : ℕ) → Gateway → Option Refusal
-put_fault source goal s = cond (source == s.own) (cond (is_peer goal s) None (Some NoRoute)) (Some ForeignAddress)
-
--- the packet of a talk under its next number
-abbrev pub packet_in : (own source goal : ℕ) → Option Talk → Option Word
-packet_in own source goal None = None
-packet_in own source goal (Some t) = Some (Packet own goal t.mine t.theirs (sent_one t).sent source goal)
-
--- the memory after the next number of a talk with gate e was used
-abbrev pub sent_after : (e : ℕ) → Gateway → Option Talk → Gateway
-sent_after e s None = s
-sent_after e s (Some t) = storing e (stored (sent_one t) (peer_at e s)) s
-
 -- What is sent by, to gate e.
 abbrev pub sending : (e : ℕ) → Gateway → Option Talk
 sending e s = for_sending s.now s.life s.most (peer_at e s)
 
--- A PACKET THAT IS PUT IN goes out by the latest talk, if there is one.
+-- where there is no talk to send by, there must be room to wait
+abbrev pub room_fault : (waiting : ℕ) → Option Talk → Option Refusal
+room_fault n (Some t) = None
+room_fault n None = cond (nat_lt n queue_limit) None (Some QueueFull)
+
+-- The first fault of a packet that is put in, by the owners of its source and its destination.
+abbrev pub put_fault : (source goal : ℕ) → Gateway → Option Refusal
+put_fault source goal s =
+    cond
+    (source == s.own)
+    (cond (is_peer goal s) (room_fault (peer_at goal s).waiting (sending goal s)) (Some NoRoute))
+    (Some ForeignAddress)
+
+-- the packet of a talk under its next number
+abbrev pub packet_in : (now own source goal : ℕ) → Option Talk → Option Word
+packet_in now own source goal None = None
+packet_in now own source goal (Some t) = Some (Packet own goal t.mine t.theirs (sent_one now t).sent source goal)
+
+-- gate e's memory after a packet was sent to it in a talk
+abbrev pub sent_to : (e : ℕ) → Talk → Gateway → Peer
+sent_to e t s = addressed (stored (sent_one s.now t) (peer_at e s))
+
+-- the memory after a packet was sent to gate e in a talk, or waits for one
+abbrev pub sent_after : (e : ℕ) → Gateway → Option Talk → Gateway
+sent_after e s None = storing e (with_waiting ((peer_at e s).waiting + 1) (peer_at e s)) s
+sent_after e s (Some t) = storing e (sent_to e t s) s
+
+-- A PACKET THAT IS PUT IN goes out by the latest talk, if there is one; else it waits.
 abbrev pub put : (source goal : ℕ) → Gateway → Result (Option Word) Refusal
-put source goal s = answer (put_fault source goal s) (packet_in s.own source goal (sending goal s))
+put source goal s = answer (put_fault source goal s) (packet_in s.now s.own source goal (sending goal s))
 
 abbrev pub put_after : (source goal : ℕ) → Gateway → Gateway
 put_after source goal s = leaves (put_fault source goal s) s (sent_after goal s (sending goal s))
 
--- A hello to gate e can be made: it is another gate, there is a tag, the tick is above that of the last restart, and none of this tick waits for its reply.
+-- A packet waits for gate e.
+abbrev pub is_waiting : (e : ℕ) → Gateway → Bool
+is_waiting e s = is_peer e s && nat_lt 0 (peer_at e s).waiting
+
+-- the memory after one that waited for gate e was sent in a talk
+abbrev pub released_by : (e : ℕ) → Gateway → Option Talk → Gateway
+released_by e s None = s
+released_by e s (Some t) = storing e (with_waiting ((peer_at e s).waiting - 1) (sent_to e t s)) s
+
+-- THE OLDEST PACKET THAT WAITS for gate e goes out by the latest talk, if there is one.
+abbrev pub release : (e : ℕ) → Gateway → Option Word
+release e s = cond (is_waiting e s) (packet_in s.now s.own s.own e (sending e s)) None
+
+abbrev pub release_after : (e : ℕ) → Gateway → Gateway
+release_after e s = cond (is_waiting e s) (released_by e s (sending e s)) s
+
+-- the talk with gate e at a place, if an empty one is due in it
+abbrev pub idle_at : (e place : ℕ) → Gateway → Option Talk
+idle_at e k s = cond (is_peer e s && nat_lt k talks_limit) (if_idle s.now s.life s.most (slice_index_or (peer_at e s).talks k None)) None
+
+-- the empty one of a talk under its next number
+abbrev pub empty_in : (now own e : ℕ) → Option Talk → Option Word
+empty_in now own e None = None
+empty_in now own e (Some t) = Some (Empty own e t.mine t.theirs (sent_one now t).sent)
+
+abbrev pub stayed_by : (e : ℕ) → Gateway → Option Talk → Gateway
+stayed_by e s None = s
+stayed_by e s (Some t) = storing e (stored (sent_one s.now t) (peer_at e s)) s
+
+-- AN EMPTY ONE goes out in the talk with gate e at a place, if one is due in it.
+abbrev pub stay : (e place : ℕ) → Gateway → Option Word
+stay e k s = empty_in s.now s.own e (idle_at e k s)
+
+abbrev pub stay_after : (e place : ℕ) → Gateway → Gateway
+stay_after e k s = stayed_by e s (idle_at e k s)
+
+-- A hello to gate e can be made: it is another gate, there is a tag, and the tick is above that of the last restart and that of the last hello to it.
 abbrev pub may_greet : (e tag : ℕ) → Gateway → Bool
-may_greet e tag s = is_peer e s && (not (tag == 0) && (nat_lt s.fell s.now && not (is_greeted s.now (peer_at e s))))
+may_greet e tag s = is_peer e s && (not (tag == 0) && (nat_lt s.fell s.now && nat_lt (peer_at e s).greeted s.now))
 
 -- A HELLO IS MADE, if one can be.
 abbrev pub greet : (e tag : ℕ) → Gateway → Option Word
@@ -178,3 +238,28 @@ ticked s =
 abbrev pub restarted : Gateway → Gateway
 restarted s =
     record { own = s.own; gates = s.gates; life = s.life; most = s.most; now = s.now; fell = s.now; peers = map forgotten s.peers }
+
+-- The timer for gate e.
+abbrev pub timer : (e : ℕ) → Gateway → Timer
+timer e s = timer_of s.now s.fell (peer_at e s)
+
+-- A HELLO TO GATE e IS DUE after a deed, by the memory after it.
+abbrev pub due_at : Deed → (e : ℕ) → Gateway → Bool
+due_at d e s = is_peer e s && due d (timer e s)
+
+-- whether the next packet goes out in a talk that is aged with it
+abbrev pub ages_in : (now life most : ℕ) → Option Talk → Bool
+ages_in now life most None = false
+ages_in now life most (Some t) = aged now life most (sent_one now t)
+
+-- The next packet to gate e goes out in a talk that is aged with it.
+abbrev pub ages : (e : ℕ) → Gateway → Bool
+ages e s = is_peer e s && ages_in s.now s.life s.most (sending e s)
+
+-- THE GATES THAT A GATE GREETS AT A TICK, by its memory after the clock moved on; those below n.
+unfoldable pub greets_below : (n : ℕ) → Gateway → List ℕ
+greets_below zero s = []
+greets_below (suc n) s = greets_below n s ++ cond (due_at Ticks n s) (n ∷ []) []
+
+abbrev pub greets : Gateway → List ℕ
+greets s = greets_below gates_limit s

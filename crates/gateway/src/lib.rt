@@ -3,8 +3,11 @@
 #![tactic(auto)]
 
 mod peers;
+mod promises;
+mod rules;
 mod state;
 mod steps;
 mod talks;
 
+pub use promises::refusals_change_nothing;
 pub use state::{Gateway, Peer, Taken, Talk, Wait, Word};

@@ -1,6 +1,6 @@
 // What a gate remembers of one other gate: looking a talk or a waiting hello up, and the memory after a change. Assumes nothing.
 ghost use Rattle.std.specs.Prelude.{◌≡◌};
-ghost use Rattle.gateway.specs.Peers.{unknown, forgotten, talk_named, for_sending, stored, met, is_asked, answered, asked, is_greeted, can_answer, has_tag};
+ghost use Rattle.gateway.specs.Peers.{unknown, forgotten, heard_now, addressed, talk_named, for_sending, stored, met, is_asked, answered, asked, can_answer, has_tag};
 ghost use Rattle.gateway.specs.Slots.{emptied};
 
 use crate::state::{Peer, Talk, Wait};
@@ -36,6 +36,10 @@ impl Peer {
             talks: [None; 3],
             waits: [None; 6],
             last_hello: 0,
+            heard: 0,
+            greeted: 0,
+            unanswered: false,
+            waiting: 0,
         }
     }
 
@@ -46,6 +50,27 @@ impl Peer {
         Peer {
             last_hello: self.last_hello,
             ..Peer::new()
+        }
+    }
+
+    /// The memory after a word of it was taken.
+    pub(crate) fn heard_now(self, now: u64) -> Peer
+        ensures { result ≡ heard_now now self }
+    {
+        Peer {
+            heard: now,
+            unanswered: false,
+            ..self
+        }
+    }
+
+    /// The memory after a packet was sent to it.
+    pub(crate) fn addressed(self) -> Peer
+        ensures { result ≡ addressed self }
+    {
+        Peer {
+            unanswered: true,
+            ..self
         }
     }
 
@@ -119,20 +144,6 @@ impl Peer {
         false
     }
 
-    /// Whether a hello of this tick waits for its reply.
-    pub(crate) fn is_greeted(self, now: u64) -> bool
-        ensures { result ≡ is_greeted now self }
-    {
-        for slot in self.waits {
-            if let Some(wait) = slot {
-                if wait.at == now {
-                    return true;
-                }
-            }
-        }
-        false
-    }
-
     /// The memory in which no hello with this tag waits any longer.
     pub(crate) fn answered(self, tag: u64) -> Peer
         ensures { result ≡ answered tag self }
@@ -150,6 +161,10 @@ impl Peer {
     {
         let mut waits = self.waits;
         waits[(at % 6) as usize] = Some(Wait { tag, at });
-        Peer { waits, ..self }
+        Peer {
+            waits,
+            greeted: at,
+            ..self
+        }
     }
 }

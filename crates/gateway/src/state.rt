@@ -14,6 +14,10 @@ pub struct Talk {
     pub(crate) sent: u32,
     /// Whether the other gate is known to have it.
     pub(crate) sure: bool,
+    /// The tick at which the last word of it was taken; 0 before the first.
+    pub(crate) heard: u64,
+    /// The tick at which its last number was used; 0 before the first.
+    pub(crate) used: u64,
     /// The numbers that came.
     pub(crate) window: Window,
 }
@@ -35,6 +39,14 @@ pub struct Peer {
     pub(crate) waits: [Option<Wait>; 6],
     /// The tick of the last hello taken from it; 0 before the first.
     pub(crate) last_hello: u64,
+    /// The tick at which the last word of it was taken; 0 before the first.
+    pub(crate) heard: u64,
+    /// The tick of the last hello to it; 0 before the first.
+    pub(crate) greeted: u64,
+    /// Whether a packet was sent to it since the last word of it was taken.
+    pub(crate) unanswered: bool,
+    /// How many packets wait for a talk with it; their bytes stand elsewhere.
+    pub(crate) waiting: u8,
 }
 
 /// A gate's whole memory.

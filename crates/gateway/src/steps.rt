@@ -1,13 +1,14 @@
 // A gate's calls: each answers, and leaves the memory, just as its contract says; refusals come in the order of their numbers. Assumes nothing.
 ghost use Rattle.std.specs.Prelude.{◌≡◌, ◌<◌, map};
-ghost use Rattle.gateway.specs.Steps.{fresh, is_peer, maker, storing, answer, leaves, peer_at, hello_fault, hello_peer, reply_fault, reply_peer, packet_talk, taken, heard_after, took, took_after, put, put_after, greet, greet_after, ticked, restarted, found_talk};
-ghost use Rattle.gateway.specs.Peers.{stored, forgotten};
-ghost use Rattle.gateway.specs.Talks.{heard_one};
+ghost use Rattle.gateway.specs.Steps.{fresh, is_peer, maker, storing, answer, leaves, peer_at, hello_fault, hello_peer, reply_fault, reply_peer, packet_talk, taken, heard_after, took, took_after, sent_to, put, put_after, release, release_after, stay, stay_after, greet, greet_after, ticked, restarted, found_talk};
+ghost use Rattle.gateway.specs.Peers.{stored, heard_now, with_waiting, forgotten};
+ghost use Rattle.gateway.specs.Talks.{heard_one, sent_one};
 ghost use Rattle.gateway.specs.declared.state.Taken.TheVariants.{Answer, Sure, Out, Alive};
-ghost use Rattle.gateway.specs.declared.state.Word.TheVariants.{Reply};
+ghost use Rattle.gateway.specs.declared.state.Word.TheVariants.{Reply, Packet};
 
 use crate::state::{Gateway, Peer, Taken, Talk, Word};
 use protocol::Refusal;
+use protocol::limits::{MAX_TALKS, MAX_WAITING};
 use window::state::Verdict;
 
 /// What is left of each peer after a restart.
@@ -38,7 +39,7 @@ impl Gateway {
     }
 
     /// Whether a gate is there, and is another one.
-    fn is_peer(&self, gate: u8) -> bool
+    pub(crate) fn is_peer(&self, gate: u8) -> bool
         ensures value { result ≡ is_peer gate self.entry.now }
     {
         gate < self.gates && gate < 32 && gate != self.own
@@ -89,7 +90,7 @@ impl Gateway {
             by,
             Peer {
                 last_hello: at,
-                ..met
+                ..met.heard_now(self.now)
             },
         );
         Ok(Taken::Answer(Word::Reply {
@@ -113,7 +114,7 @@ impl Gateway {
             return Err(Refusal::UnaskedReply);
         }
         let talk = Talk::new(answers, tag, self.now, true);
-        self.store(by, peer.answered(answers).met(talk));
+        self.store(by, peer.answered(answers).met(talk).heard_now(self.now));
         Ok(Taken::Sure)
     }
 
@@ -148,10 +149,11 @@ impl Gateway {
     /// Notes that a number came in a talk.
     fn hear(&mut self, by: u8, talk: Talk, number: u64)
         requires { by < 32 }
-        ensures { self.exit.now ≡ storing by (stored (heard_one number talk) (peer_at by self.entry.now)) self.entry.now }
+        ensures { self.exit.now ≡ storing by (heard_now self.entry.now.now (stored (heard_one self.entry.now.now number talk) (peer_at by self.entry.now))) self.entry.now }
     {
         let peer = self.peers[usize::from(by)];
-        self.store(by, peer.stored(talk.heard(number)));
+        let heard = peer.stored(talk.heard(self.now, number));
+        self.store(by, heard.heard_now(self.now));
     }
 
     /// A packet of a talk is brought, with the owners of its source and its destination.
@@ -226,8 +228,29 @@ impl Gateway {
         }
     }
 
+    /// A packet goes out to a gate in a talk with it, under its next number.
+    fn send(&mut self, goal: u8, source: u8, talk: Talk, waiting: u8) -> Word
+        requires { goal < 32 }
+        ensures word { result ≡ Packet self.entry.now.own goal talk.mine talk.theirs (sent_one self.entry.now.now talk).sent source goal }
+        ensures after { self.exit.now ≡ storing goal (with_waiting waiting (sent_to goal talk self.entry.now)) self.entry.now }
+    {
+        let used = talk.sent_one(self.now);
+        let peer = self.peers[usize::from(goal)].stored(used).addressed();
+        self.store(goal, Peer { waiting, ..peer });
+        Word::Packet {
+            by: self.own,
+            to: goal,
+            by_tag: talk.mine,
+            to_tag: talk.theirs,
+            number: u64::from(used.sent),
+            source,
+            goal,
+        }
+    }
+
     /// A packet is put in, by the owners of its source and its destination. Answers the word that it goes out in, or none where there is no talk to send it
-    /// by; refuses a source that is not this gate's and a destination that is no other gate's, which changes nothing.
+    /// by, and then it waits; refuses a source that is not this gate's, a destination that is no other gate's, and a packet that finds no room to wait, which
+    /// changes nothing.
     pub fn put(&mut self, source: u8, goal: u8) -> Result<Option<Word>, Refusal>
         ensures answer { result ≡ put source goal self.entry.now }
         ensures after { self.exit.now ≡ put_after source goal self.entry.now }
@@ -239,25 +262,68 @@ impl Gateway {
             return Err(Refusal::NoRoute);
         }
         let peer = self.peers[usize::from(goal)];
-        let Some(talk) = peer.for_sending(self.now, self.life, self.most) else {
-            return Ok(None);
-        };
-        let used = talk.sent_one();
-        self.store(goal, peer.stored(used));
-        let number = u64::from(used.sent);
-        Ok(Some(Word::Packet {
-            by: self.own,
-            to: goal,
-            by_tag: talk.mine,
-            to_tag: talk.theirs,
-            number,
-            source,
+        if let Some(talk) = peer.for_sending(self.now, self.life, self.most) {
+            return Ok(Some(self.send(goal, source, talk, peer.waiting)));
+        }
+        if usize::from(peer.waiting) >= MAX_WAITING {
+            return Err(Refusal::QueueFull);
+        }
+        self.store(
             goal,
-        }))
+            Peer {
+                waiting: peer.waiting + 1,
+                ..peer
+            },
+        );
+        Ok(None)
     }
 
-    /// Makes a hello to a gate under a drawn tag; none where that gate is not another one, the tag is 0, the tick is not above that of the last restart, or
-    /// a hello to it of this tick waits for its reply, and then nothing is changed.
+    /// The oldest packet that waits for a gate goes out. Answers its word; none where none waits or there is no talk to send it by, and then nothing is changed.
+    pub fn release(&mut self, gate: u8) -> Option<Word>
+        ensures answer { result ≡ release gate self.entry.now }
+        ensures after { self.exit.now ≡ release_after gate self.entry.now }
+    {
+        if !self.is_peer(gate) {
+            return None;
+        }
+        let waiting = self.peers[usize::from(gate)].waiting;
+        if waiting == 0 {
+            return None;
+        }
+        let talk = self.peers[usize::from(gate)].for_sending(self.now, self.life, self.most)?;
+        Some(self.send(gate, self.own, talk, waiting - 1))
+    }
+
+    /// An empty one goes out in the talk with a gate at a place, the latest talk standing first. Answers it; none where none is due in it, and then nothing is
+    /// changed.
+    pub fn stay(&mut self, gate: u8, place: usize) -> Option<Word>
+        ensures answer { result ≡ stay gate place self.entry.now }
+        ensures after { self.exit.now ≡ stay_after gate place self.entry.now }
+    {
+        if !self.is_peer(gate) {
+            return None;
+        }
+        if place >= MAX_TALKS {
+            return None;
+        }
+        let peer = self.peers[usize::from(gate)];
+        let talk = peer.talks[place]?;
+        if !talk.is_idle(self.now, self.life, self.most) {
+            return None;
+        }
+        let used = talk.sent_one(self.now);
+        self.store(gate, peer.stored(used));
+        Some(Word::Empty {
+            by: self.own,
+            to: gate,
+            by_tag: talk.mine,
+            to_tag: talk.theirs,
+            number: u64::from(used.sent),
+        })
+    }
+
+    /// Makes a hello to a gate under a drawn tag; none where that gate is not another one, the tag is 0, or the tick is not above that of the last restart
+    /// and that of the last hello to it, and then nothing is changed.
     pub fn greet(&mut self, gate: u8, tag: u64) -> Option<Word>
         ensures answer { result ≡ greet gate tag self.entry.now }
         ensures after { self.exit.now ≡ greet_after gate tag self.entry.now }
@@ -266,7 +332,7 @@ impl Gateway {
             return None;
         }
         let peer = self.peers[usize::from(gate)];
-        if peer.is_greeted(self.now) {
+        if self.now <= peer.greeted {
             return None;
         }
         self.store(gate, peer.asked(tag, self.now));

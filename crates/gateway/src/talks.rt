@@ -6,7 +6,7 @@ use crate::state::Talk;
 use window::state::Window;
 
 impl Talk {
-    /// A talk that was just made: nothing was sent in it and nothing has come.
+    /// A talk that was just made: nothing was sent in it and no number has come. Who is sure of it at once got a reply, which is a word of it.
     pub(crate) fn new(mine: u64, theirs: u64, born: u64, sure: bool) -> Talk
         ensures { result ≡ fresh_talk mine theirs born sure }
     {
@@ -16,6 +16,8 @@ impl Talk {
             born,
             sent: 0,
             sure,
+            heard: if sure { born } else { 0 },
+            used: 0,
             window: Window::new(),
         }
     }
@@ -42,22 +44,24 @@ impl Talk {
     }
 
     /// The talk after a number came in it: whoever hears something of a talk is sure of it.
-    pub(crate) fn heard(self, number: u64) -> Talk
-        ensures { result ≡ heard_one number self }
+    pub(crate) fn heard(self, now: u64, number: u64) -> Talk
+        ensures { result ≡ heard_one now number self }
     {
         Talk {
             sure: true,
+            heard: now,
             window: self.window.after(number),
             ..self
         }
     }
 
     /// The talk after its next number was used.
-    pub(crate) fn sent_one(self) -> Talk
-        ensures { result ≡ sent_one self }
+    pub(crate) fn sent_one(self, now: u64) -> Talk
+        ensures { result ≡ sent_one now self }
     {
         Talk {
             sent: self.sent.saturating_add(1),
+            used: now,
             ..self
         }
     }

@@ -1,23 +1,23 @@
--- Each public call, by its answer and the memory after, does what its events do. Assumes nothing.
-use Rattle.std.proofs.Common.{◌≡◌, ℕ, ◌≤◌, List, [], ◌∷◌, ◌++◌, Option, Result, sym, refl, ◌∙◌, subst, arith}
+-- Any word that is brought does what its delivery does; and a gate that was just made. Assumes nothing.
+use Rattle.std.proofs.Common.{◌≡◌, ℕ, ◌%◌, ◌^◌, ◌<◌, ◌≤◌, List, [], ◌∷◌, ◌++◌, length, get_or, replicate, Some, None, Option, Result, sym, refl, ap, ◌∙◌, subst, arith}
 use Rattle.std.proofs.lemmas.List.{get_or-replicate}
 use Rattle.protocol.specs.declared.refusals.Refusal.{Refusal}
 use Rattle.gates.specs.Lists.{At}
-use Rattle.gates.specs.World.{Ev, Puts, empty_gate, waits_for, world}
+use Rattle.gates.specs.Talk.{Inner, Rules}
+use Rattle.gates.specs.World.{Ev, Puts, Brings, empty_gate, waits_for, world}
 use Rattle.gates.specs.World.{Word as Sealed, Hello as HelloWord, Reply as ReplyWord, Packet as PacketWord, Empty as EmptyWord}
-use Rattle.gates.specs.Promise.{GreetsBelow}
-use Rattle.gates.specs.Code.{Follows, AllNew}
+use Rattle.gates.specs.Promise.{GreetsBelow, by_of}
+use Rattle.gates.specs.Code.{Did, Follows, AllNew}
 use Rattle.gateway.specs.declared.state.Gateway.{Gateway}
 use Rattle.gateway.specs.declared.state.Word.{Word}
 use Rattle.gateway.specs.declared.state.Taken.{Taken}
 use Rattle.gateway.specs.Slots.{first_that}
 use Rattle.gateway.specs.Peers.{unknown}
-use Rattle.gateway.specs.Steps.{blank, fresh, took, took_after, put, put_after, greet, greet_after, ticked, restarted}
+use Rattle.gateway.specs.Steps.{blank, fresh, is_peer, peer_at, took, took_after, put, put_after, greet, greet_after, ticked, restarted}
 use Rattle.refinement.specs.Relation.{rules_of, with_peer, Vacant, Agrees, SamePeer, Stands}
 use Rattle.refinement.specs.Calls.{Ticks, Says, Sends, Falls, drawn_of, as_code, sent_for, drew_for, out_for, hears, hearing, sent_as, put_as, gone_out, drawn_as, does, doing}
-use Rattle.refinement.specs.Steps.{TakeFollows, PutFollows, GreetFollows, TickFollows, RestartFollows}
 use Rattle.refinement.proofs.Standing.{peer_bound}
-use Rattle.refinement.proofs.Asked.{ticks_so, falls_so, says_so, sends_so, empty-place}
+use Rattle.refinement.proofs.Asked.{empty-place}
 use Rattle.refinement.proofs.Taking.{hello_so, reply_so, packet_so, empty_so}
 
 -- any word of the net
@@ -28,59 +28,6 @@ hears_so k life most few owner es a (HelloWord by f tag n) ts s i b st p new = h
 hears_so k life most few owner es a (ReplyWord by f tag to) ts s i b st p new = reply_so k life most few owner es a by f tag to ts s i b st p
 hears_so k life most few owner es a (PacketWord by f m h n y) ts s i b st p new = packet_so k life most few owner es a by f m h n y ts s i b st p
 hears_so k life most few owner es a (EmptyWord by f m h n) ts s i b st p new = empty_so k life most few owner es a by f m h n ts s i b st p
-
-pub take_follows : (word : Word) (drawn : ℕ) (s : Gateway) (res : Result Taken Refusal) (after : Gateway) → res ≡ took word drawn s → after ≡ took_after word drawn s → TakeFollows word drawn s res after
-take_follows word drawn s res after er ea k life most owner es a x ts i few b is_IsWord is-drawn st p new =
-    subst
-    (λ d. Follows (Stands k life most a) a (world (rules_of life most owner) es) (world (rules_of life most owner) (hearing owner a x ts s i ++ es)) d)
-    same
-    (hears_so k life most few owner es a x ts s i b st p new)
-  where
-    r_is : took (as_code owner x) (drawn_of ts) s ≡ res
-    r_is = (λ j. took (is_IsWord j) (is-drawn j) s) ∙ sym er
-
-    a_is : took_after (as_code owner x) (drawn_of ts) s ≡ after
-    a_is = (λ j. took_after (is_IsWord j) (is-drawn j) s) ∙ sym ea
-
-    same : hears owner a x ts s ≡ record { after = after; sent = sent_for res; put = []; out = out_for a x res; drew = drew_for drawn res }
-    same j = record { after = a_is j; sent = sent_for (r_is j); put = []; out = out_for a x (r_is j); drew = drew_for (is-drawn j) (r_is j) }
-
-pub put_follows : (source goal : ℕ) (s : Gateway) (res : Result (Option Word) Refusal) (after : Gateway) → res ≡ put source goal s → after ≡ put_after source goal s → PutFollows source goal s res after
-put_follows source goal s res after er ea k life most owner es a x fits from to st =
-    subst
-    (λ d. Follows (Stands k life most a) a (world (rules_of life most owner) es) (world (rules_of life most owner) (Puts a x ∷ es)) d)
-    same
-    (sends_so k life most fits owner es a x s st)
-  where
-    r_is : put (owner x.from) (owner x.to) s ≡ res
-    r_is = (λ j. put (from j) (to j) s) ∙ sym er
-
-    a_is : put_after (owner x.from) (owner x.to) s ≡ after
-    a_is = (λ j. put_after (from j) (to j) s) ∙ sym ea
-
-    same : does owner a (Sends x) s ≡ record { after = after; sent = sent_as x (gone_out res); put = put_as x (gone_out res); out = []; drew = [] }
-    same j = record { after = a_is j; sent = sent_as x (gone_out (r_is j)); put = put_as x (gone_out (r_is j)); out = []; drew = [] }
-
-pub greet_follows : (e t : ℕ) (s : Gateway) (res : Option Word) (after : Gateway) → res ≡ greet e t s → after ≡ greet_after e t s → GreetFollows e t s res after
-greet_follows e t s res after er ea k life most owner es a fits st new =
-    subst
-    (λ d. Follows (Stands k life most a) a (world (rules_of life most owner) es) (world (rules_of life most owner) (doing a (Says e t) s ++ es)) d)
-    (λ j. record { after = sym ea j; sent = sent_as Rattle.refinement.specs.Calls.nothing (sym er j); put = []; out = []; drew = drawn_as t (sym er j) })
-    (says_so k life most fits owner es a e t s st new)
-
-pub tick_follows : (s after : Gateway) → after ≡ ticked s → TickFollows s after
-tick_follows s after e k life most owner es a fits st =
-    subst
-    (λ z. Follows (Stands k life most a) a (world (rules_of life most owner) es) (world (rules_of life most owner) (doing a Ticks s ++ es)) (record { after = z; sent = []; put = []; out = []; drew = [] }))
-    (sym e)
-    (ticks_so k life most fits owner es a s st)
-
-pub restart_follows : (s after : Gateway) → after ≡ restarted s → RestartFollows s after
-restart_follows s after e k life most owner es a fits st =
-    subst
-    (λ z. Follows (Stands k life most a) a (world (rules_of life most owner) es) (world (rules_of life most owner) (doing a Falls s ++ es)) (record { after = z; sent = []; put = []; out = []; drew = [] }))
-    (sym e)
-    (falls_so k life most fits owner es a s st)
 
 -- a gate that was just made stands for one before anything happened
 pub start-stands : (k life most a : ℕ) → Stands k life most a (fresh a k life most) 1 empty_gate
@@ -106,6 +53,7 @@ start-stands k life most a =
             waits_so = λ n t l. refl;
             six = refl;
             placed = λ i x h. absurd (empty-place 6 i x h);
+            greeted_so = omega arith;
             hello_so = refl;
           });
       known = λ t i. absurd (mathlib.Core.List.Memᴰ.not-nil i);

@@ -2,9 +2,9 @@ pub mod Sessions
 pub mod Asking
 pub mod Standing
 pub mod Asked
+pub mod Sending
 pub mod Taking
 pub mod Followed
 pub mod Playing
 pub mod Begins
-pub mod Asks
 pub mod Opening

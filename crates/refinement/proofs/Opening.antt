@@ -1,50 +1,45 @@
 -- It always can, over the code: a hello of a new tick and its reply give two gates a talk, and what is then put in comes out. Assumes nothing.
-use Rattle.std.proofs.Common.{◌≡◌, ℕ, zero, suc, ◌+◌, ◌-◌, ◌%◌, ◌^◌, ◌<◌, ◌≤◌, Bool, true, false, cond, not, ◌&&◌, ◌||◌, eqb, ltb, leb, List, [], ◌∷◌, ◌++◌, length, get_or, take, set, is_some, Some, None, Ok, Option, sym, refl, ap, ◌∙◌, subst, ap₂, append-nil, le_of_suc-le-suc, arith, length-append, length-set, get_or-set_other, get_or-set_same}
+use Rattle.std.proofs.Common.{◌≡◌, ℕ, zero, suc, ◌+◌, ◌-◌, ◌%◌, ◌^◌, ◌<◌, ◌≤◌, min, Bool, true, false, cond, not, ◌&&◌, ◌||◌, eqb, ltb, leb, List, [], ◌∷◌, ◌++◌, length, get_or, take, set, is_some, Some, None, Ok, Err, Option, Result, sym, refl, ap, ◌∙◌, subst, ap₂, append-nil, le_of_suc-le-suc, arith, length-append, length-set, get_or-set_other, get_or-set_same}
 use Rattle.std.proofs.lemmas.List.{get_or_push}
-use Rattle.std.proofs.lemmas.Bool.{cond-true, cond-false, eq-eqb, ne_eqb, and_from, or_from, lt-ltb, le-leb, lt-leb, not_from_false}
-use Rattle.gates.specs.World.{world}
+use Rattle.std.proofs.lemmas.Bool.{cond-true, cond-false, eqb-true, eqb-false, eq-eqb, ne_eqb, and_parts, and_from, or_from, lt-ltb, le-leb, lt-leb, not_from_false}
+use Rattle.protocol.specs.declared.refusals.Refusal.{Refusal}
+use Rattle.gates.specs.World.{Ev, world}
 use Rattle.gates.proofs.Steps.{inv}
+use Rattle.window.specs.Heard.{look_bits, empty_window}
+use Rattle.window.specs.declared.state.Verdict.TheVariants.{Fresh}
+use Rattle.gateway.specs.declared.state.Talk.{Talk}
 use Rattle.gateway.specs.declared.state.Wait.{Wait}
 use Rattle.gateway.specs.declared.state.Peer.{Peer}
 use Rattle.gateway.specs.declared.state.Gateway.{Gateway}
-use Rattle.gateway.specs.declared.state.Word.TheVariants.{Hello, Reply, Packet}
-use Rattle.gateway.specs.declared.state.Taken.TheVariants.{Answer, Sure, Out}
+use Rattle.gateway.specs.declared.state.Word.{Word}
+use Rattle.gateway.specs.declared.state.Word.TheVariants.{Hello, Reply, Packet, Empty}
+use Rattle.gateway.specs.declared.state.Taken.{Taken}
+use Rattle.gateway.specs.declared.state.Taken.TheVariants.{Answer, Sure, Out, Alive}
 use Rattle.gateway.specs.Slots.{first_that}
 use Rattle.gateway.specs.Talks.{fresh_talk, lives, may_send, names}
-use Rattle.gateway.specs.Peers.{can_answer, is_greeted, asked}
-use Rattle.gateway.specs.Steps.{blank, peer_at, storing, is_peer, answer, leaves, hello_fault, hello_peer, reply_fault, reply_peer, found_in, found_talk, if_owned, took, took_after, put_fault, packet_in, sending, put, put_after, may_greet, greet, greet_after, ticked}
+use Rattle.gateway.specs.Peers.{can_answer, asked}
+use Rattle.gateway.specs.Steps.{blank, peer_at, storing, is_peer, answer, leaves, hello_fault, hello_peer, reply_fault, reply_peer, by_verdict, found_in, found_talk, if_owned, packet_talk, took, took_after, room_fault, put_fault, packet_in, sending, put, put_after, sent_after, may_greet, greet, greet_after, ticked}
 use Rattle.gateway.specs.Steps.{taken as answered-as}
+use Rattle.refinement.specs.declared.state.Parcel.{Parcel}
 use Rattle.refinement.specs.declared.state.Letter.{Letter}
 use Rattle.refinement.specs.declared.state.Event.{Event}
 use Rattle.refinement.specs.declared.state.Event.TheVariants.{Tick, Greet, Put, Bring}
 use Rattle.refinement.specs.declared.state.Outcome.{Outcome}
 use Rattle.refinement.specs.Relation.{rules_of, SamePeer, Stands}
 use Rattle.refinement.specs.Calls.{as_code, gone_out}
-use Rattle.refinement.specs.Sea.{owner_in, nobody, sealed_of, Books, letter_of, silent, brought_out, list_of, no_gate, no_letter, entered, gate_of, letter_in, is_there, after_of, outcome_of, happens, plays, CanOpen}
+use Rattle.refinement.specs.Sea.{owner_in, nobody, sealed_of, Books, letter_of, silent, brought_out, list_of, no_gate, no_letter, entered, gate_of, letter_in, is_there, after_of, outcome_of, happens, plays, Reached, CanOpen}
 use Rattle.refinement.proofs.Standing.{peer_bound}
 
--- no hello was said in a tick that is above all of theirs
-none-greeted : (now : ℕ) (ws : List (Option Wait)) → ((i : ℕ) (x : Wait) → get_or ws i None ≡ Some x → x.at < now) → is_some (first_that (λ x. eqb x.at now) ws) ≡ false
-unfolding first_that
-none-greeted now [] h = refl
-none-greeted now (None ∷ ws) h = none-greeted now ws (λ i x e. h (suc i) x e)
-none-greeted now (Some y ∷ ws) h =
-    ap is_some (cond-false (eqb y.at now) (Some y) (first_that (λ x. eqb x.at now) ws) (ne_eqb y.at now (let l = h 0 y refl in λ e. above y.at now l e))) ∙
-    none-greeted now ws (λ i x e. h (suc i) x e)
-  where
-    above : (m n : ℕ) → m < n → m ≡ n → ⊥
-    above m n l e = omega arith
-
 -- what was just put in a place passes
-set_passes : {A : Type 0} (p : A → Bool) (y : A) (xs : List (Option A)) (i : ℕ) → i < length xs → p y ≡ true → is_some (first_that p (set xs i (Some y))) ≡ true
+set-passes : {A : Type 0} (p : A → Bool) (y : A) (xs : List (Option A)) (i : ℕ) → i < length xs → p y ≡ true → is_some (first_that p (set xs i (Some y))) ≡ true
 unfolding first_that
-set_passes p y [] i l h = absurd (none i l)
+set-passes p y [] i l h = absurd (none i l)
   where
     none : (n : ℕ) → suc n ≤ 0 → ⊥
     none n k = omega arith
-set_passes p y (x ∷ xs) zero l h = ap is_some (cond-true (p y) (Some y) (first_that p xs) h)
-set_passes p y (None ∷ xs) (suc i) l h = set_passes p y xs i (le_of_suc-le-suc l) h
-set_passes p y (Some x ∷ xs) (suc i) l h = go (p x) (set_passes p y xs i (le_of_suc-le-suc l) h)
+set-passes p y (x ∷ xs) zero l h = ap is_some (cond-true (p y) (Some y) (first_that p xs) h)
+set-passes p y (None ∷ xs) (suc i) l h = set-passes p y xs i (le_of_suc-le-suc l) h
+set-passes p y (Some x ∷ xs) (suc i) l h = go (p x) (set-passes p y xs i (le_of_suc-le-suc l) h)
   where
     go : (b : Bool) → is_some (first_that p (set xs i (Some y))) ≡ true → is_some (cond b (Some x) (first_that p (set xs i (Some y)))) ≡ true
     go true k = refl
@@ -54,8 +49,8 @@ first_passes : {A : Type 0} (p : A → Bool) (x : A) (xs : List (Option A)) → 
 unfolding first_that
 first_passes p x xs h = cond-true (p x) (Some x) (first_that p xs) h
 
-stored_peer : (e : ℕ) (p : Peer) (s : Gateway) → length s.peers ≡ 32 → e < 32 → peer_at e (storing e p s) ≡ p
-stored_peer e p s l b = get_or-set_same s.peers e p blank (omega arith)
+stored-peer : (e : ℕ) (p : Peer) (s : Gateway) → length s.peers ≡ 32 → e < 32 → peer_at e (storing e p s) ≡ p
+stored-peer e p s l b = get_or-set_same s.peers e p blank (omega arith)
 
 self : (a : ℕ) → eqb a a ≡ true
 self a = eq-eqb a a refl
@@ -64,7 +59,7 @@ nonzero : (t : ℕ) → 0 < t → eqb t 0 ≡ false
 nonzero t h = ne_eqb t 0 (λ e. omega arith)
 
 module _ (s_a s_e : Gateway) (t y : ℕ) (pe : is_peer s_e.own s_a ≡ true) (pa : is_peer s_a.own s_e ≡ true) (t_a : length s_a.peers ≡ 32) (t_e : length s_e.peers ≡ 32)
-    (six : length (peer_at s_e.own s_a).waits ≡ 6) (old : (i : ℕ) (x : Wait) → get_or (peer_at s_e.own s_a).waits i None ≡ Some x → x.at ≤ s_a.now) (fell : s_a.fell ≤ s_a.now)
+    (six : length (peer_at s_e.own s_a).waits ≡ 6) (old : (peer_at s_e.own s_a).greeted ≤ s_a.now) (fell : s_a.fell ≤ s_a.now)
     (clock : s_a.now < 2 ^ 64 - 1) (late : (peer_at s_a.own s_e).last_hello ≤ s_a.now) (nt : 0 < t) (ny : 0 < y) (most : 0 < s_a.most) where
   abbrev A : ℕ
   A = s_a.own
@@ -88,17 +83,17 @@ module _ (s_a s_e : Gateway) (t y : ℕ) (pe : is_peer s_e.own s_a ≡ true) (pa
   greets =
       and_from
       (is_peer E s₁)
-      (not (eqb t 0) && (ltb s₁.fell N && not (is_greeted N p₁)))
+      (not (eqb t 0) && (ltb s₁.fell N && ltb p₁.greeted N))
       pe
       (and_from
       (not (eqb t 0))
-      (ltb s₁.fell N && not (is_greeted N p₁))
+      (ltb s₁.fell N && ltb p₁.greeted N)
       (not_from_false (eqb t 0) (nonzero t nt))
       (and_from
       (ltb s₁.fell N)
-      (not (is_greeted N p₁))
+      (ltb p₁.greeted N)
       (lt-ltb s₁.fell N (let q = N-is in omega arith))
-      (not_from_false (is_greeted N p₁) (none-greeted N p₁.waits (λ i x h. let l = old i x h in let q = N-is in omega arith)))))
+      (lt-ltb p₁.greeted N (let l = old in let q = N-is in omega arith))))
 
   greet-is : greet E t s₁ ≡ Some (Hello A E t N)
   greet-is = cond-true (may_greet E t s₁) _ _ greets
@@ -131,12 +126,12 @@ module _ (s_a s_e : Gateway) (t y : ℕ) (pe : is_peer s_e.own s_a ≡ true) (pa
   in-E = peer_bound A s_e pa
 
   peer₂ : peer_at E s₂ ≡ asked t N p₁
-  peer₂ = stored_peer E (asked t N p₁) s₁ t_a in-A
+  peer₂ = stored-peer E (asked t N p₁) s₁ t_a in-A
 
   asked-now : is_some (first_that (can_answer N t) (peer_at E s₂).waits) ≡ true
   asked-now =
       ap (λ (q : Peer). is_some (first_that (can_answer N t) q.waits)) peer₂ ∙
-      set_passes (can_answer N t) (record { tag = t; at = N }) p₁.waits (N % 6) (let s = six in omega arith) (and_from (eqb t t) (leb N (N + 5)) (self t) (le-leb N (N + 5) (omega arith)))
+      set-passes (can_answer N t) (record { tag = t; at = N }) p₁.waits (N % 6) (let s = six in omega arith) (and_from (eqb t t) (leb N (N + 5)) (self t) (le-leb N (N + 5) (omega arith)))
 
   reply-ok : reply_fault E A y t s₂ ≡ None
   reply-ok =
@@ -153,7 +148,7 @@ module _ (s_a s_e : Gateway) (t y : ℕ) (pe : is_peer s_e.own s_a ≡ true) (pa
   reply-after = ap (λ o. leaves o s₂ s₃) reply-ok
 
   peer₃ : peer_at E s₃ ≡ reply_peer y t N (peer_at E s₂)
-  peer₃ = stored_peer E (reply_peer y t N (peer_at E s₂)) s₂ (length-set s_a.peers E (asked t N p₁) ∙ t_a) in-A
+  peer₃ = stored-peer E (reply_peer y t N (peer_at E s₂)) s₂ (length-set s_a.peers E (asked t N p₁) ∙ t_a) in-A
 
   sends_by : sending E s₃ ≡ Some (fresh_talk t y N true)
   sends_by =
@@ -161,13 +156,13 @@ module _ (s_a s_e : Gateway) (t y : ℕ) (pe : is_peer s_e.own s_a ≡ true) (pa
       first_passes (may_send N s_a.life s_a.most) (fresh_talk t y N true) (take 2 (peer_at E s₂).talks) (and_from (leb N (N + s_a.life)) (ltb 0 s_a.most) (le-leb N (N + s_a.life) (omega arith)) (lt-ltb 0 s_a.most most))
 
   put-ok : put_fault A E s₃ ≡ None
-  put-ok = cond-true (eqb A s₃.own) _ _ (self A) ∙ cond-true (is_peer E s₃) _ _ pe
+  put-ok = cond-true (eqb A s₃.own) _ _ (self A) ∙ (cond-true (is_peer E s₃) _ _ pe ∙ ap (room_fault (peer_at E s₃).waiting) sends_by)
 
   put_is : put A E s₃ ≡ Ok (Some (Packet A E t y 1 A E))
-  put_is = ap₂ (λ o u. answer o (packet_in A A E u)) put-ok sends_by
+  put_is = ap₂ (λ o u. answer o (packet_in N A A E u)) put-ok sends_by
 
   peer_e_lem : peer_at A e₁ ≡ hello_peer t N y s_e.now (peer_at A s_e)
-  peer_e_lem = stored_peer A (hello_peer t N y s_e.now (peer_at A s_e)) s_e t_e in-E
+  peer_e_lem = stored-peer A (hello_peer t N y s_e.now (peer_at A s_e)) s_e t_e in-E
 
   found_e : found_talk A E t y 1 e₁ ≡ Ok (fresh_talk y t s_e.now false)
   found_e =
@@ -179,8 +174,8 @@ module _ (s_a s_e : Gateway) (t y : ℕ) (pe : is_peer s_e.own s_a ≡ true) (pa
   packet-took : took (Packet A E t y 1 A E) 0 e₁ ≡ Ok Out
   packet-took = ap (answered-as Out) (ap₂ if_owned (and_from (eqb A A) (eqb E e₁.own) (self A) (self E)) found_e)
 
-is_peer_lem : (e : ℕ) (s : Gateway) (k : ℕ) → s.gates ≡ k → e < k → k ≤ 32 → (e ≡ s.own → ⊥) → is_peer e s ≡ true
-is_peer_lem e s k is l few ne =
+is-peer : (e : ℕ) (s : Gateway) (k : ℕ) → s.gates ≡ k → e < k → k ≤ 32 → (e ≡ s.own → ⊥) → is_peer e s ≡ true
+is-peer e s k is l few ne =
     and_from
     (ltb e s.gates)
     (ltb e 32 && not (eqb e s.own))
@@ -243,9 +238,9 @@ module _ (owners : List ℕ) (k a e : ℕ) (la : a < k) (le' : e < k) (ne : a �
 last_there : (xs : List Letter) (x : Letter) (n : ℕ) → length xs ≡ n → ltb n (length (xs ++ (x ∷ []))) ≡ true
 last_there xs x n l = lt-ltb n (length (xs ++ (x ∷ []))) (let q = length-append xs (x ∷ []) in omega arith)
 
-pub can_open : CanOpen
+pub can-open : CanOpen
 unfolding plays
-can_open owners k life most es b a e t y p few some fits h la le' ne from to clock nt ny = final.out_so ∙ ap (λ z. b.out ++ (z ∷ [])) packet-is
+can-open owners k life most es b a e t y p few some fits h la le' ne from to clock nt ny = final.out_so ∙ ap (λ z. b.out ++ (z ∷ [])) packet-is
   where
     s_a : Gateway
     s_a = get_or b.gates a no_gate
@@ -266,10 +261,10 @@ can_open owners k life most es b a e t y p few some fits h la le' ne from to clo
     is_e = st_e.own_so
 
     peer_e : is_peer e s_a ≡ true
-    peer_e = is_peer_lem e s_a k st_a.gates_so le' few (λ z. ne (sym is_a ∙ sym z))
+    peer_e = is-peer e s_a k st_a.gates_so le' few (λ z. ne (sym is_a ∙ sym z))
 
     peer_a : is_peer a s_e ≡ true
-    peer_a = is_peer_lem a s_e k st_e.gates_so la few (λ z. ne (z ∙ is_e))
+    peer_a = is-peer a s_e k st_e.gates_so la few (λ z. ne (z ∙ is_e))
 
     pe : is_peer s_e.own s_a ≡ true
     pe = ap (λ z. is_peer z s_a) is_e ∙ peer_e
@@ -280,8 +275,8 @@ can_open owners k life most es b a e t y p few some fits h la le' ne from to clo
     sp_e : SamePeer ((world (rules_of life most (owner_in owners)) es).now a) ((world (rules_of life most (owner_in owners)) es).gates a) s_e.own (peer_at s_e.own s_a)
     sp_e = st_a.peers_so s_e.own pe
 
-    old : (i : ℕ) (x : Wait) → get_or (peer_at s_e.own s_a).waits i None ≡ Some x → x.at ≤ s_a.now
-    old i x q = let l = (sp_e.placed i x q).1 in let m = st_a.now_so in omega arith
+    old : (peer_at s_e.own s_a).greeted ≤ s_a.now
+    old = let l = sp_e.greeted_so in let m = st_a.now_so in omega arith
 
     late : (peer_at s_a.own s_e).last_hello ≤ s_a.now
     late =

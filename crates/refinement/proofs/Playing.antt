@@ -1,26 +1,25 @@
 -- Many gates and a net: whatever happens is a run of the abstract protocol, and so the promise holds. Assumes nothing.
-use Rattle.std.proofs.Common.{◌≡◌, ℕ, zero, suc, ◌-◌, ◌^◌, ◌<◌, ◌≤◌, Bool, true, false, cond, not, ◌&&◌, ◌||◌, eqb, ltb, leb, ◌⊎◌, List, [], ◌∷◌, ◌++◌, length, get_or, set, Some, None, Ok, Err, Option, Result, sym, refl, ap, ◌∙◌, subst, ap₂, inl, inr, ⊎_elim, append_assoc, append-nil, le_of_suc-le-suc, arith, length-set, get_or-set_other, get_or-set_same}
+use Rattle.std.proofs.Common.{◌≡◌, ℕ, zero, suc, ◌+◌, ◌-◌, ◌^◌, ◌<◌, ◌≤◌, Bool, true, false, cond, not, ◌&&◌, ◌||◌, eqb, ltb, leb, ◌⊎◌, List, [], ◌∷◌, ◌++◌, length, get_or, set, Some, None, Ok, Err, Option, Result, sym, refl, ap, ◌∙◌, subst, ap₂, inl, inr, ⊎_elim, append_assoc, append-nil, le_of_suc-le-suc, arith, length-set, get_or-set_other, get_or-set_same}
 use mathlib.Core.List.Memᴰ
-use Rattle.std.proofs.lemmas.Bool.{cond-true, eqb-true, eqb-false, ne_eqb, and_parts, and_from, not-true, not_from_false, or_parts, or_from, ltb-true, ltb-false, lt-ltb, cases_eq}
+use Rattle.std.proofs.lemmas.Bool.{cond-true, cond-false, eqb-true, eqb-false, ne_eqb, and_parts, and_from, not-true, not_from_false, or_parts, or_from, ltb-true, ltb-false, lt-ltb, cases_eq}
 use Rattle.protocol.specs.declared.refusals.Refusal.{Refusal}
 use Rattle.gates.specs.Lists.{In, At}
-use Rattle.gates.specs.Talk.{Rules, is_in}
+use Rattle.gates.specs.Talk.{Inner, Rules, is_in}
 use Rattle.gates.specs.World.{Note, World, Ev, Brings, Puts, Drops, is_new, world}
 use Rattle.gates.specs.World.{Word as Sealed, Hello as HelloWord, Reply as ReplyWord, Packet as PacketWord, Empty as EmptyWord}
 use Rattle.gates.specs.World as worlds
-use Rattle.gates.specs.Promise.{note_of, by_of, for_of}
+use Rattle.gates.specs.Promise.{Whole, GreetsBelow, lied, note_of, by_of, for_of}
 use Rattle.gates.specs.Code.{Did, Follows, AllNew, OfGate, AllOfGate}
-use Rattle.gates.proofs.Lists.{in-at}
-use Rattle.gates.proofs.Refines.{run_there, run-honest, run-below}
+use Rattle.gates.proofs.Lists.{in-at, at_in}
+use Rattle.gates.proofs.Refines.{Untouched, run_there, run-honest, run-below}
 use Rattle.gates.proofs.Whole.{main}
 use Rattle.gateway.specs.declared.state.Talk.{Talk}
 use Rattle.gateway.specs.declared.state.Peer.{Peer}
 use Rattle.gateway.specs.declared.state.Gateway.{Gateway}
 use Rattle.gateway.specs.declared.state.Word.{Word}
-use Rattle.gateway.specs.declared.state.Word.TheVariants.{Reply}
+use Rattle.gateway.specs.declared.state.Word.TheVariants.{Hello, Reply, Packet, Empty}
 use Rattle.gateway.specs.declared.state.Taken.{Taken}
 use Rattle.gateway.specs.declared.state.Taken.TheVariants.{Answer, Sure, Out, Alive}
-use Rattle.gateway.specs.Peers.{is_greeted}
 use Rattle.gateway.specs.Steps.{is_peer, peer_at, may_greet, answer, hello_fault, reply_fault, found_talk, packet_talk, took, took_after, put, put_after, greet, greet_after, ticked, restarted}
 use Rattle.gateway.specs.Steps.{taken as answered-as}
 use Rattle.refinement.specs.declared.state.Parcel.{Parcel}
@@ -29,10 +28,11 @@ use Rattle.refinement.specs.declared.state.Event.{Event}
 use Rattle.refinement.specs.declared.state.Event.TheVariants.{Tick, Restart, Greet, Put, Bring}
 use Rattle.refinement.specs.declared.state.Outcome.{Outcome}
 use Rattle.refinement.specs.Relation.{rules_of, Stands}
-use Rattle.refinement.specs.Calls.{Call, Ticks, Says, Sends, Falls, offers, as_code, drawn_of, hearing, does, doing, gone_out, sent_as, put_as, drawn_as, nothing, sent_for, out_for, drew_for, drops_oldest, drops_for}
+use Rattle.refinement.specs.Calls.{Call, Ticks, Says, Sends, Falls, offers, as_code, as_word, drawn_of, hears, hearing, does, doing, gone_out, sent_as, put_as, drawn_as, nothing, sent_for, out_for, drew_for, drops_oldest, drops_for}
 use Rattle.refinement.specs.Sea.{owner_in, inner_of, nobody, sealed_of, Books, letter_of, silent, brought_out, list_of, no_gate, entered, no_letter, gate_of, letter_in, is_there, after_of, outcome_of, happens, plays, tag_of, tags_of, backwards, words_of, puts_of, outs_of, Reached, Kept, Plays}
-use Rattle.refinement.proofs.Asked.{ticks_so, falls_so, says_so, sends_so}
-use Rattle.refinement.proofs.Taking.{owned_ok, talk_tests, hello-none}
+use Rattle.refinement.proofs.Asked.{ticks_so, falls_so, says_so}
+use Rattle.refinement.proofs.Sending.{sends_so}
+use Rattle.refinement.proofs.Taking.{owned-ok, talk_tests, hello-none}
 use Rattle.refinement.proofs.Followed.{hears_so}
 
 backwards-append : {A : Type 0} (f : Letter → List A) (xs ys : List Letter) → backwards f (xs ++ ys) ≡ backwards f ys ++ backwards f xs
@@ -99,17 +99,17 @@ module _ (k life most : ℕ) (few : k ≤ 32) (fits : most < 2 ^ 32) (owners : L
   same_new [] w v e n = tt
   same_new (u ∷ us) w v e n = (ap (λ z. not (is_in u z) && not (eqb u 0)) e ∙ n.0, n.1, same_new us w v e n.2)
 
-  grown_new : (t : ℕ) (rest : List ℕ) (w v : World) → v.drawn ≡ t ∷ w.drawn → is_in t rest ≡ false → AllNew rest w → AllNew rest v
+  grown-new : (t : ℕ) (rest : List ℕ) (w v : World) → v.drawn ≡ t ∷ w.drawn → is_in t rest ≡ false → AllNew rest w → AllNew rest v
   unfolding AllNew is_in
-  grown_new t [] w v e h n = tt
-  grown_new t (u ∷ us) w v e h n =
+  grown-new t [] w v e h n = tt
+  grown-new t (u ∷ us) w v e h n =
       let q = or_parts (eqb u t) (is_in t us) h in
       let p = and_parts (not (is_in u w.drawn)) (not (eqb u 0)) n.0 in
       let ne : eqb t u ≡ false = ne_eqb t u (λ z. eqb-false u t q.0 (sym z)) in (
         ap (λ z. not (is_in u z) && not (eqb u 0)) e ∙
             and_from (not (eqb t u || is_in u w.drawn)) (not (eqb u 0)) (not_from_false (eqb t u || is_in u w.drawn) (or_from (eqb t u) (is_in u w.drawn) ne (not-true (is_in u w.drawn) p.0))) p.1,
         n.1,
-        grown_new t us w v e q.1 n.2,
+        grown-new t us w v e q.1 n.2,
       )
 
   new_parts : (t : ℕ) (rest : List ℕ) (w : World) → AllNew (t ∷ rest) w → (is_in t rest ≡ false) × AllNew rest w
@@ -124,7 +124,7 @@ module _ (k life most : ℕ) (few : k ≤ 32) (fits : most < 2 ^ 32) (owners : L
   rest-new ds ts rest w v e (inl q) n = same_new rest w v (e ∙ ap (λ z. z ++ w.drawn) q) (skip_new ts rest w n)
   rest-new ds ts rest w v e (inr q) n =
       let h = new_parts q.0 rest w (subst (λ z. AllNew (z ++ rest) w) q.2 n) in
-      grown_new q.0 rest w v (e ∙ ap (λ z. z ++ w.drawn) q.1) h.0 h.1
+      grown-new q.0 rest w v (e ∙ ap (λ z. z ++ w.drawn) q.1) h.0 h.1
 
   -- where a list of events led, and that the tags to come are still new
   record Went (b : Books) (es : List Ev) (rest : List ℕ) : Type 0 where
@@ -192,7 +192,7 @@ module _ (k life most : ℕ) (few : k ≤ 32) (fits : most < 2 ^ 32) (owners : L
 
   greeted-below : (e t : ℕ) (s : Gateway) → s.gates ≡ k → may_greet e t s ≡ true → e < k
   greeted-below e t s is h =
-      let p = (and_parts (is_peer e s) (not (eqb t 0) && (ltb s.fell s.now && not (is_greeted s.now (peer_at e s)))) h).0 in
+      let p = (and_parts (is_peer e s) (not (eqb t 0) && (ltb s.fell s.now && ltb (peer_at e s).greeted s.now)) h).0 in
       subst (λ z. e < z) is (ltb-true e s.gates (and_parts (ltb e s.gates) (ltb e 32 && not (eqb e s.own)) p).0)
 
   sent_matches : (p : Parcel) (o : Option Word) → sent_as (inner_of p) o ≡ words_of (list_of (letter_of p o))
@@ -258,7 +258,7 @@ module _ (k life most : ℕ) (few : k ≤ 32) (fits : most < 2 ^ 32) (owners : L
       go : (v : Result Talk Refusal) → packet_talk a f m h n (owner_in owners y.from) (owner_in owners y.to) s ≡ v → answered-as Out v ≡ Ok Out → f ≡ s.own
       go (Err f') q z = absurd (let u : ◌≡◌ {A = ℕ} 0 1 = cc in omega arith)
       go (Ok u) q z =
-          let o = (owned_ok k life most few (owner_in owners) _ (found_talk a f m h n s) u q).1 in
+          let o = (owned-ok k life most few (owner_in owners) _ (found_talk a f m h n s) u q).1 in
           let c = (talk_tests k life most few (owner_in owners) (is_peer a s && eqb f s.own) (eqb m 0 || eqb h 0) _ u o).0 in
           eqb-true f s.own (and_parts (is_peer a s) (eqb f s.own) c).1
   out_for_lem (EmptyWord a f m h n) t s e = absurd (go (found_talk a f m h n s) e)

@@ -1,5 +1,5 @@
 -- Places in memory that agree with an abstract gate's talks: what is found in both, and that they go on agreeing. Assumes nothing.
-use Rattle.std.proofs.Common.{◌≡◌, ℕ, Bool, true, false, cond, ◌&&◌, eqb, ◌⊎◌, List, [], ◌∷◌, length, get_or, take, is_ok, Some, None, Option, sym, refl, ap, ◌∙◌, subst, inl, inr, ⊎_elim, arith}
+use Rattle.std.proofs.Common.{◌≡◌, ℕ, zero, suc, ◌+◌, ◌<◌, ◌≤◌, Bool, true, false, cond, not, ◌&&◌, ◌||◌, eqb, ltb, leb, ◌⊎◌, List, [], ◌∷◌, ◌++◌, length, get_or, take, is_ok, Some, None, Ok, Err, Option, Result, sym, refl, ap, ◌∙◌, subst, inl, inr, ⊎_elim, arith}
 use mathlib.Core.List.Memᴰ
 use Rattle.std.proofs.lemmas.Bool.{cond-true, cond-false, eqb-true, eqb-false, eq-eqb, ne_eqb}
 use Rattle.gates.specs.Lists.{In}
@@ -10,10 +10,11 @@ use Rattle.gates.specs.World.{Found, NoTalk, This, is_talk, comes_in, change, wi
 use Rattle.gates.specs.World as worlds
 use Rattle.gates.proofs.Lists.{Distinct}
 use Rattle.gates.proofs.Talks.{SameTag}
-use Rattle.window.specs.Heard.{look_bits, is_fresh, verdict_of}
+use Rattle.window.specs.Heard.{span, look_bits, is_fresh, verdict_of}
 use Rattle.window.specs.declared.state.Verdict.{Verdict}
 use Rattle.window.specs.declared.state.Verdict.TheVariants.{Fresh, TooOld, Came}
 use Rattle.window.proofs.Heard.{look-stands, as_in_talks}
+use Rattle.protocol.specs.declared.refusals.Refusal.{Refusal}
 use Rattle.gateway.specs.declared.state.Talk.{Talk}
 use Rattle.gateway.specs.Slots.{first_that, replaced}
 use Rattle.gateway.specs.Talks.{lives, may_send, names}
@@ -83,10 +84,10 @@ first_both p q same (t ∷ ts) (Some u ∷ us) a = go (p t) refl (q u) refl (fir
     go false s false k rest = later (first_session p ts) (first_that q us) rest
 
 -- looking for a talk to send by among all is looking among those with that gate
-sending_peer : (r : Rules) (now e : ℕ) (ts : List Session) → worlds.for_sending r now e ts ≡ first_session (abstract.may_send r now) (with_peer e ts)
+sending-peer : (r : Rules) (now e : ℕ) (ts : List Session) → worlds.for_sending r now e ts ≡ first_session (abstract.may_send r now) (with_peer e ts)
 unfolding worlds.for_sending first_session with_peer
-sending_peer r now e [] = refl
-sending_peer r now e (t ∷ ts) = go (eqb t.with' e) (sending_peer r now e ts)
+sending-peer r now e [] = refl
+sending-peer r now e (t ∷ ts) = go (eqb t.with' e) (sending-peer r now e ts)
   where
     go : (b : Bool) → worlds.for_sending r now e ts ≡ first_session (abstract.may_send r now) (with_peer e ts) →
         cond (b && abstract.may_send r now t) (This t) (worlds.for_sending r now e ts) ≡ first_session (abstract.may_send r now) (cond b (t ∷ with_peer e ts) (with_peer e ts))
@@ -110,8 +111,8 @@ module _ (life most : ℕ) (owner : ℕ → ℕ) where
   abbrev r : Rules
   r = rules_of life most owner
 
-  send_same : (now : ℕ) (t : Session) (u : Talk) → SameTalk t u → abstract.may_send r now t ≡ may_send now life most u
-  send_same now t u h = cc (h.sure_so, h.born_so, h.sent_so)
+  pub send-same : (now : ℕ) (t : Session) (u : Talk) → SameTalk t u → abstract.may_send r now t ≡ may_send now life most u
+  send-same now t u h = cc (h.sure_so, h.born_so, h.sent_so)
 
   -- the talk to send by is found in both, or in neither
   pub sending_both : (now e : ℕ) (ts : List Session) (us : List (Option Talk)) → Agrees (with_peer e ts) us →
@@ -119,8 +120,8 @@ module _ (life most : ℕ) (owner : ℕ → ℕ) where
   sending_both now e ts us a =
       subst
       (λ f. FoundBoth (with_peer e ts) f (first_that (may_send now life most) us))
-      (sym (sending_peer r now e ts))
-      (first_both (abstract.may_send r now) (may_send now life most) (send_same now) (with_peer e ts) us a)
+      (sym (sending-peer r now e ts))
+      (first_both (abstract.may_send r now) (may_send now life most) (send-same now) (with_peer e ts) us a)
 
   verdict-ok : (v : Verdict) (u : Talk) → is_fresh v ≡ is_ok (by_verdict v u)
   verdict-ok Fresh u = refl
@@ -194,11 +195,11 @@ change_absent m f (t ∷ ts) n =
     cond-false (eqb t.mine m) _ _ (ne_eqb t.mine m (n t (Memᴰ.head refl))) ∙ ap (λ z. t ∷ z) (change_absent m f ts (λ u i. n u (Memᴰ.tail i)))
 
 -- changing a talk and looking at those with gate e go in either order
-pub change_peer : (e m : ℕ) (f : Session → Session) → ((t : Session) → (f t).with' ≡ t.with') → (ts : List Session) → Distinct SameTag ts →
+pub change-peer : (e m : ℕ) (f : Session → Session) → ((t : Session) → (f t).with' ≡ t.with') → (ts : List Session) → Distinct SameTag ts →
     with_peer e (change m f ts) ≡ change m f (with_peer e ts)
 unfolding with_peer change Distinct
-change_peer e m f keeps [] d = refl
-change_peer e m f keeps (t ∷ ts) d = go (eqb t.mine m) refl (eqb t.with' e) refl (change_peer e m f keeps ts d.1)
+change-peer e m f keeps [] d = refl
+change-peer e m f keeps (t ∷ ts) d = go (eqb t.mine m) refl (eqb t.with' e) refl (change-peer e m f keeps ts d.1)
   where
     go : (b : Bool) → eqb t.mine m ≡ b → (c : Bool) → eqb t.with' e ≡ c → with_peer e (change m f ts) ≡ change m f (with_peer e ts) →
         with_peer e (cond b (f t ∷ ts) (t ∷ change m f ts)) ≡ change m f (cond c (t ∷ with_peer e ts) (with_peer e ts))

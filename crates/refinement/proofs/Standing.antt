@@ -1,13 +1,15 @@
 -- A memory goes on standing for its gate when one peer's part of both changes. Assumes nothing.
-use Rattle.std.proofs.Common.{◌≡◌, ℕ, zero, suc, ◌%◌, ◌<◌, ◌≤◌, Bool, true, false, cond, not, ◌&&◌, eqb, ltb, List, [], ◌∷◌, length, get_or, take, set, Some, None, Option, sym, refl, ap, ◌∙◌, subst, ⊎_elim, arith, length-set, length-take, get_or-set_other, get_or-set_same}
+use Rattle.std.proofs.Common.{◌≡◌, ℕ, zero, suc, ◌+◌, ◌-◌, ◌%◌, ◌^◌, ◌<◌, ◌≤◌, min, Bool, true, false, cond, not, ◌&&◌, ◌||◌, eqb, ltb, leb, ◌⊎◌, List, [], ◌∷◌, ◌++◌, length, get_or, take, set, is_some, Some, None, Option, sym, refl, ap, ◌∙◌, subst, inl, inr, ⊎_elim, arith, length-set, length-take, get_or-set_other, get_or-set_same}
 use mathlib.Core.List.Memᴰ
-use Rattle.std.proofs.lemmas.Bool.{cond-true, cond-false, eq-eqb, ne_eqb, and_parts, ltb-true, cases_eq}
+use Rattle.std.proofs.lemmas.Bool.{cond-true, cond-false, eqb-true, eqb-false, eq-eqb, ne_eqb, and_parts, ltb-true, cases_eq, not-true}
 use Rattle.gates.specs.Lists.{In}
+use Rattle.gates.specs.Talk.{Rules}
+use Rattle.gates.specs.Talk as abstract
 use Rattle.gates.specs.Talk.{Talk as Session, new_talk}
 use Rattle.gates.specs.World.{Gate, change, without_talk, waits_for}
 use Rattle.gates.specs.World.{Wait as Waiter, with_talks as with-sessions}
 use Rattle.gates.proofs.Lists.{Distinct}
-use Rattle.gates.proofs.Talks.{SameTag, without_talk_lem}
+use Rattle.gates.proofs.Talks.{SameTag, change-from, without_talk_lem}
 use Rattle.window.proofs.Heard.{empty_stands}
 use Rattle.gateway.specs.declared.state.Talk.{Talk}
 use Rattle.gateway.specs.declared.state.Wait.{Wait}
@@ -15,14 +17,21 @@ use Rattle.gateway.specs.declared.state.Peer.{Peer}
 use Rattle.gateway.specs.declared.state.Gateway.{Gateway}
 use Rattle.gateway.specs.Slots.{first_that, replaced}
 use Rattle.gateway.specs.Talks.{fresh_talk}
-use Rattle.gateway.specs.Peers.{is_asked, stored, same_tag}
+use Rattle.gateway.specs.Peers.{is_asked, can_answer, stored, same_tag, with_talks}
 use Rattle.gateway.specs.Steps.{blank, peer_at, storing, is_peer}
 use Rattle.refinement.specs.Relation.{with_peer, SameTalk, Vacant, Agrees, SamePeer, Stands}
-use Rattle.refinement.proofs.Sessions.{found_same, peer_in, distinct_peer, change_absent, change_peer, agrees_store, without_peer, without_absent, agrees_two, agrees_drop}
+use Rattle.refinement.proofs.Sessions.{found_same, peer_in, in-peer, distinct_peer, change_absent, change-peer, agrees_store, without_peer, without_absent, agrees_two, agrees_drop}
 
 pub peer_bound : (e : ℕ) (s : Gateway) → is_peer e s ≡ true → e < 32
 peer_bound e s h =
     ltb-true e 32 (and_parts (ltb e 32) (not (eqb e s.own)) (and_parts (ltb e s.gates) (ltb e 32 && not (eqb e s.own)) h).1).0
+
+-- a peer is another gate
+pub peer-other : (e : ℕ) (s : Gateway) → is_peer e s ≡ true → s.own ≡ e → ⊥
+peer-other e s h q =
+    let p = and_parts (ltb e s.gates) (ltb e 32 && not (eqb e s.own)) h in
+    let o = and_parts (ltb e 32) (not (eqb e s.own)) p.1 in
+    eqb-false e s.own (not-true (eqb e s.own) o.1) (sym q)
 
 -- the abstract talks after the one in the third place was dropped
 abbrev pub dropped : Option Talk → List Session → List Session
@@ -34,7 +43,7 @@ dropped_in None ts t i = i
 dropped_in (Some v) ts t i = without_talk_lem v.mine ts t i
 
 -- the talk in a place stands for one of the abstract gate's
-place_same : (ts : List Session) (us : List (Option Talk)) (i : ℕ) (v : Talk) → get_or us i None ≡ Some v → Agrees ts us → (t : Session) × In t ts × SameTalk t v
+pub place_same : (ts : List Session) (us : List (Option Talk)) (i : ℕ) (v : Talk) → get_or us i None ≡ Some v → Agrees ts us → (t : Session) × In t ts × SameTalk t v
 unfolding Agrees Vacant
 place_same ts [] i v e a = absurd (no_talk i e)
   where
@@ -117,10 +126,10 @@ changed-known P m f (u ∷ us) to all t i = go (eqb u.mine m) i (λ k. changed-k
 
 module _ (k life most a : ℕ) where
   -- One peer's memory is replaced, and the gate changes in what it has of that peer only.
-  pub stands_peer : (s : Gateway) (now : ℕ) (g f : Gate) (e : ℕ) (p : Peer) → Stands k life most a s now g → is_peer e s ≡ true → SamePeer now f e p →
+  pub stands-peer : (s : Gateway) (now : ℕ) (g f : Gate) (e : ℕ) (p : Peer) → Stands k life most a s now g → is_peer e s ≡ true → SamePeer now f e p →
       ((j : ℕ) → (j ≡ e → ⊥) → is_peer j s ≡ true → SamePeer now f j (peer_at j s)) → ((t : Session) → In t f.talks → is_peer t.with' s ≡ true) →
       Stands k life most a (storing e p s) now f
-  stands_peer s now g f e p st pe here there known' =
+  stands-peer s now g f e p st pe here there known' =
       record {
         own_so = st.own_so;
         gates_so = st.gates_so;
@@ -143,6 +152,34 @@ module _ (k life most a : ℕ) where
       at_other : (j : ℕ) → (j ≡ e → ⊥) → get_or (set s.peers e p) j blank ≡ get_or s.peers j blank
       at_other j ne = get_or-set_other s.peers e j p blank ne
 
+  -- Nothing of it changes that the abstract gate has.
+  pub stands_same : (s : Gateway) (now : ℕ) (g : Gate) (e : ℕ) (p : Peer) → Stands k life most a s now g → is_peer e s ≡ true →
+      p.talks ≡ (peer_at e s).talks → p.waits ≡ (peer_at e s).waits → p.greeted ≡ (peer_at e s).greeted → p.last_hello ≡ (peer_at e s).last_hello → Stands k life most a (storing e p s) now g
+  stands_same s now g e p st pe talks-is waits-is greeted-is hello-is =
+      stands-peer
+      s
+      now
+      g
+      g
+      e
+      p
+      st
+      pe
+      (record {
+        talks_so = subst (Agrees (with_peer e g.talks)) (sym talks-is) old.talks_so;
+        three = ap length talks-is ∙ old.three;
+        waits_so = λ n t l. old.waits_so n t l ∙ ap (λ z. is_some (first_that (can_answer n t) z)) (sym waits-is);
+        six = ap length waits-is ∙ old.six;
+        placed = λ i x h. let b = old.placed i x (ap (λ z. get_or z i None) (sym waits-is) ∙ h) in (b.0, let g' = greeted-is in omega (arith, b.1));
+        greeted_so = let b = old.greeted_so in let g' = greeted-is in omega arith;
+        hello_so = old.hello_so ∙ sym hello-is;
+      })
+      (λ j ne pj. st.peers_so j pj)
+      st.known
+    where
+      old : SamePeer now g e (peer_at e s)
+      old = st.peers_so e pe
+
   fresh-same : (e m h now : ℕ) (sure : Bool) → SameTalk (new_talk e m h now sure) (fresh_talk m h now sure)
   fresh-same e m h now sure =
       record { mine_so = refl; theirs_so = refl; born_so = refl; sent_so = refl; sure_so = refl; window_so = empty_stands }
@@ -150,13 +187,13 @@ module _ (k life most a : ℕ) where
   -- A further talk with gate e, in both; the oldest of three goes.
   pub stands-met : (s : Gateway) (now : ℕ) (g : Gate) (e : ℕ) (st : Stands k life most a s now g) (pe : is_peer e s ≡ true) (d : Distinct SameTag g.talks)
       (m h : ℕ) (sure : Bool) (W : List Waiter) (L : ℕ → ℕ) (p : Peer) → p.talks ≡ Some (fresh_talk m h now sure) ∷ take 2 (peer_at e s).talks →
-      length p.waits ≡ 6 → ((i : ℕ) (x : Wait) → get_or p.waits i None ≡ Some x → (x.at % 6 ≡ i) × (x.at ≤ now)) →
+      length p.waits ≡ 6 → ((i : ℕ) (x : Wait) → get_or p.waits i None ≡ Some x → (x.at % 6 ≡ i) × (x.at ≤ p.greeted)) → p.greeted ≤ now →
       ((n t : ℕ) → now ≤ n → waits_for n e t W ≡ is_asked n t p) →
       ((j : ℕ) → (j ≡ e → ⊥) → (n t : ℕ) → now ≤ n → waits_for n j t W ≡ waits_for n j t g.waits) →
       L e ≡ p.last_hello → ((j : ℕ) → (j ≡ e → ⊥) → L j ≡ g.last_hello j) →
       Stands k life most a (storing e p s) now (record { talks = new_talk e m h now sure ∷ dropped (get_or (peer_at e s).talks 2 None) g.talks; waits = W; last_hello = L })
-  stands-met s now g e st pe d m h sure W L p talks-is six' placed' waits_e waits_j hello-e hello-j =
-      stands_peer
+  stands-met s now g e st pe d m h sure W L p talks-is six' placed' greeted' waits_e waits_j hello-e hello-j =
+      stands-peer
       s
       now
       g
@@ -171,6 +208,7 @@ module _ (k life most a : ℕ) where
         waits_so = waits_e;
         six = six';
         placed = placed';
+        greeted_so = greeted';
         hello_so = hello-e;
       })
       (λ j ne pj.
@@ -181,6 +219,7 @@ module _ (k life most a : ℕ) where
         waits_so = λ n t l. waits_j j ne n t l ∙ q.waits_so n t l;
         six = q.six;
         placed = q.placed;
+        greeted_so = q.greeted_so;
         hello_so = hello-j j ne ∙ q.hello_so;
       })
       (λ t i. ⊎_elim (λ (z : t ≡ new). subst (λ y. is_peer y.with' s ≡ true) (sym z) pe) (λ z. st.known t (dropped_in o g.talks t z)) (Memᴰ.cases_cons i))
@@ -213,24 +252,26 @@ module _ (k life most a : ℕ) where
   pub stands-changed : (s : Gateway) (now : ℕ) (g : Gate) (e : ℕ) (st : Stands k life most a s now g) (pe : is_peer e s ≡ true) (d : Distinct SameTag g.talks)
       (q : Talk → Bool) (f : Session → Session) (u y : Talk) → first_that q (peer_at e s).talks ≡ Some u → y.mine ≡ u.mine →
       ((t : Session) → (f t).with' ≡ t.with') → ((t : Session) → SameTalk t u → SameTalk (f t) y) →
-      Stands k life most a (storing e (stored y (peer_at e s)) s) now (with-sessions (change u.mine f g.talks) g)
-  stands-changed s now g e st pe d q f u y found same keeps to =
-      stands_peer
+      (p : Peer) → p.talks ≡ replaced (same_tag y) y (peer_at e s).talks → p.waits ≡ (peer_at e s).waits → p.greeted ≡ (peer_at e s).greeted → p.last_hello ≡ (peer_at e s).last_hello →
+      Stands k life most a (storing e p s) now (with-sessions (change u.mine f g.talks) g)
+  stands-changed s now g e st pe d q f u y found same keeps to p talks-is waits-is greeted-is hello-is =
+      stands-peer
       s
       now
       g
       (with-sessions (change u.mine f g.talks) g)
       e
-      (stored y (peer_at e s))
+      p
       st
       pe
       (record {
-        talks_so = subst (λ z. Agrees z (replaced (same_tag y) y us)) (sym (change_peer e u.mine f keeps g.talks d)) (agrees_store q f u y same to (with_peer e g.talks) us old.talks_so (distinct_peer e g.talks d) found);
-        three = replaced-length (same_tag y) y us ∙ old.three;
-        waits_so = old.waits_so;
-        six = old.six;
-        placed = old.placed;
-        hello_so = old.hello_so;
+        talks_so = subst (λ z. Agrees (with_peer e (change u.mine f g.talks)) z) (sym talks-is) (subst (λ z. Agrees z (replaced (same_tag y) y us)) (sym (change-peer e u.mine f keeps g.talks d)) (agrees_store q f u y same to (with_peer e g.talks) us old.talks_so (distinct_peer e g.talks d) found));
+        three = ap length talks-is ∙ (replaced-length (same_tag y) y us ∙ old.three);
+        waits_so = λ n t l. old.waits_so n t l ∙ ap (λ z. is_some (first_that (can_answer n t) z)) (sym waits-is);
+        six = ap length waits-is ∙ old.six;
+        placed = λ i x h. let b = old.placed i x (ap (λ z. get_or z i None) (sym waits-is) ∙ h) in (b.0, let g' = greeted-is in omega (arith, b.1));
+        greeted_so = let b = old.greeted_so in let g' = greeted-is in omega arith;
+        hello_so = old.hello_so ∙ sym hello-is;
       })
       (λ j ne pj.
       let o = st.peers_so j pj in
@@ -240,6 +281,7 @@ module _ (k life most a : ℕ) where
         waits_so = o.waits_so;
         six = o.six;
         placed = o.placed;
+        greeted_so = o.greeted_so;
         hello_so = o.hello_so;
       })
       (changed-known (λ t. is_peer t.with' s ≡ true) u.mine f g.talks (λ t p. subst (λ z. is_peer z s ≡ true) (sym (keeps t)) p) st.known)
@@ -254,7 +296,7 @@ module _ (k life most a : ℕ) where
       others j ne =
           let z = found_same q (with_peer e g.talks) us u old.talks_so found in
           let zi = peer_in e g.talks z.0 z.1 in
-          change_peer j u.mine f keeps g.talks d ∙
+          change-peer j u.mine f keeps g.talks d ∙
           change_absent
           u.mine
           f

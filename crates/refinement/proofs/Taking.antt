@@ -1,24 +1,24 @@
 -- A word that is brought to a gate does what its delivery does, after a drop where three talks were had. Assumes nothing.
-use Rattle.std.proofs.Common.{◌≡◌, ℕ, zero, suc, ◌<◌, ◌≤◌, Bool, true, false, cond, not, ◌&&◌, ◌||◌, eqb, ltb, leb, List, [], ◌∷◌, ◌++◌, map, get_or, take, is_ok, Some, None, Ok, Err, Option, Result, sym, refl, ap, ◌∙◌, subst, ap₂, le_refl, arith}
+use Rattle.std.proofs.Common.{◌≡◌, ℕ, zero, suc, ◌+◌, ◌-◌, ◌%◌, ◌^◌, ◌<◌, ◌≤◌, Bool, true, false, cond, not, ◌&&◌, ◌||◌, eqb, ltb, leb, ◌⊎◌, List, [], ◌∷◌, ◌++◌, map, length, get_or, take, is_ok, Some, None, Ok, Err, Option, Result, sym, refl, ap, ◌∙◌, subst, ap₂, inl, inr, ⊎_elim, le_refl, arith}
 use lib.ListN.{length-map}
-use Rattle.std.proofs.lemmas.Bool.{cond-true, cond-false, eqb-true, eq-eqb, ne_eqb, and_parts, and_from, or_from, ltb-true, lt-ltb, leb-false, lt-leb, not-true, not_from_false}
+use Rattle.std.proofs.lemmas.Bool.{cond-true, cond-false, eqb-true, eqb-false, eq-eqb, ne_eqb, and_parts, and_from, or_parts, or_from, ltb-true, lt-ltb, leb-false, lt-leb, cases_eq, not-true, not_from_false, both_ways}
 use Rattle.protocol.specs.declared.refusals.Refusal.{Refusal}
-use Rattle.protocol.specs.declared.refusals.Refusal.TheVariants.{WrongGate, ZeroTag, OldHello, UnaskedReply, NoTalk, ForeignAddress, NoDrawnBytes}
+use Rattle.protocol.specs.declared.refusals.Refusal.TheVariants.{WrongGate, ZeroTag, OldHello, UnaskedReply, NoTalk, BelowWindow, RepeatedNumber, ForeignAddress, NoDrawnBytes}
 use Rattle.gates.specs.Lists.{In, At}
 use Rattle.gates.specs.Talk.{Rules, Inner, is_in, new_talk, came}
 use Rattle.gates.specs.Talk.{Talk as Session}
-use Rattle.gates.specs.World.{Gate, World, Ev, Brings, changed, is_new, takes, taken, world, waits_for, without_wait, comes_in, change}
-use Rattle.gates.specs.World.{Word as Sealed, Hello as HelloWord, Reply as ReplyWord, Packet as PacketWord, Empty as EmptyWord, with_talks as with-sessions}
+use Rattle.gates.specs.World.{Gate, World, Ev, Brings, Drops, changed, is_new, becomes, hears, note, takes, taken, brings, brings_nth, step, world, waits_for, without_wait, comes_in, change}
+use Rattle.gates.specs.World.{Word as Sealed, Hello as HelloWord, Reply as ReplyWord, Packet as PacketWord, Empty as EmptyWord, Wait as Waiter, with_talks as with-sessions}
 use Rattle.gates.specs.Promise.{by_of, for_of, GreetsBelow}
 use Rattle.gates.specs.Code.{Did, Follows, AllNew}
 use Rattle.gates.proofs.Lists.{at_in}
 use Rattle.gates.proofs.Talks.{waits_for_lem}
-use Rattle.gates.proofs.Invariant.{one-draw}
+use Rattle.gates.proofs.Invariant.{Inv, one-draw}
 use Rattle.gates.proofs.Steps.{inv}
 use Rattle.gates.proofs.Origins.{proper}
 use Rattle.gates.proofs.Nets.{brings-at}
 use Rattle.gates.proofs.Can.{changed_here, changed_there}
-use Rattle.window.specs.Heard.{look_bits}
+use Rattle.window.specs.Heard.{look_bits, verdict_of}
 use Rattle.window.specs.declared.state.Verdict.{Verdict}
 use Rattle.window.specs.declared.state.Verdict.TheVariants.{Fresh, TooOld, Came}
 use Rattle.window.proofs.Heard.{look-stands, after-stands}
@@ -26,15 +26,16 @@ use Rattle.gateway.specs.declared.state.Talk.{Talk}
 use Rattle.gateway.specs.declared.state.Wait.{Wait}
 use Rattle.gateway.specs.declared.state.Peer.{Peer}
 use Rattle.gateway.specs.declared.state.Gateway.{Gateway}
+use Rattle.gateway.specs.declared.state.Word.{Word}
 use Rattle.gateway.specs.declared.state.Word.TheVariants.{Reply}
 use Rattle.gateway.specs.declared.state.Taken.{Taken}
 use Rattle.gateway.specs.declared.state.Taken.TheVariants.{Answer, Sure, Out, Alive}
 use Rattle.gateway.specs.Slots.{first_that, emptied}
 use Rattle.gateway.specs.Talks.{fresh_talk, lives, names, heard_one}
-use Rattle.gateway.specs.Peers.{has_tag, is_asked, stored}
+use Rattle.gateway.specs.Peers.{can_answer, has_tag, is_asked, answered, stored, heard_now}
 use Rattle.gateway.specs.Steps.{peer_at, storing, is_peer, answer, leaves, hello_fault, hello_peer, reply_fault, reply_peer, by_verdict, found_in, found_talk, if_owned, packet_talk, heard_after}
 use Rattle.gateway.specs.Steps.{taken as answered-as}
-use Rattle.refinement.specs.Relation.{rules_of, with_peer, SameTalk, SamePeer, Stands}
+use Rattle.refinement.specs.Relation.{rules_of, with_peer, SameTalk, Agrees, SamePeer, Stands}
 use Rattle.refinement.specs.Calls.{drawn_of, sent_for, drew_for, out_for, drops_oldest, drops_for}
 use Rattle.refinement.specs.Calls as calls
 use Rattle.refinement.proofs.Sessions.{comes_both, found_same}
@@ -211,7 +212,7 @@ module _ (k life most : ℕ) (few : k ≤ 32) (owner : ℕ → ℕ) where
           (λ v. Follows (Stands k life most a) a w v (did None))
           (sym (brings-at r a i drawn x w₁.net w₁ (subst (At i x) (sym room.net_so) p) ∙ cond-true (takes r a drawn x w₁) (taken a drawn x w₁) w₁ taken_so))
           (record {
-            stands = subst (Stands k life most a s' (w₁.now a)) (sym (changed_here a _ w₁.gates)) (subst (λ z. Stands k life most a s' (z a) (met z (w₁.gates a))) (sym room.now_so) (subst (λ z. Stands k life most a s' (w.now a) (met w.now z)) (sym room.gate_so) (stands-met k life most a s (w.now a) g by st pe ((inv r es).memory a).apart drawn tag false g.waits (changed by n g.last_hello) (hello_peer tag n drawn s.now q) (ap (λ z. Some (fresh_talk drawn tag z false) ∷ take 2 q.talks) st.now_so) old.six old.placed old.waits_so (λ j ne m t l. refl) (changed_here by n g.last_hello) (λ j ne. changed_there by n g.last_hello j ne))));
+            stands = subst (Stands k life most a s' (w₁.now a)) (sym (changed_here a _ w₁.gates)) (subst (λ z. Stands k life most a s' (z a) (met z (w₁.gates a))) (sym room.now_so) (subst (λ z. Stands k life most a s' (w.now a) (met w.now z)) (sym room.gate_so) (stands-met k life most a s (w.now a) g by st pe ((inv r es).memory a).apart drawn tag false g.waits (changed by n g.last_hello) (hello_peer tag n drawn s.now q) (ap (λ z. Some (fresh_talk drawn tag z false) ∷ take 2 q.talks) st.now_so) old.six old.placed old.greeted_so old.waits_so (λ j ne m t l. refl) (changed_here by n g.last_hello) (λ j ne. changed_there by n g.last_hello j ne))));
             net_so = ap₂ (λ y z. ReplyWord y by drawn tag ∷ z) (sym st.own_so) room.net_so;
             put_so = room.put_so;
             out_so = room.out_so;
@@ -344,7 +345,7 @@ module _ (k life most : ℕ) (few : k ≤ 32) (owner : ℕ → ℕ) where
           (λ v. Follows (Stands k life most a) a w v (did None))
           (sym (brings-at r a i drawn x w₁.net w₁ (subst (At i x) (sym room.net_so) p) ∙ cond-true (takes r a drawn x w₁) (taken a drawn x w₁) w₁ taken_so))
           (record {
-            stands = subst (Stands k life most a s' (w₁.now a)) (sym (changed_here a _ w₁.gates)) (subst (λ z. Stands k life most a s' (z a) (met z (w₁.gates a))) (sym room.now_so) (subst (λ z. Stands k life most a s' (w.now a) (met w.now z)) (sym room.gate_so) (stands-met k life most a s (w.now a) g by st pe ((inv r es).memory a).apart to tag true (without_wait to g.waits) g.last_hello (reply_peer tag to s.now q) (ap (λ z. Some (fresh_talk to tag z true) ∷ take 2 q.talks) st.now_so) (length-map q.waits (emptied (has_tag to)) ∙ old.six) (λ j y e. old.placed j y (emptied-place to q.waits j y e)) waits_e waits_j old.hello_so (λ j ne. refl))));
+            stands = subst (Stands k life most a s' (w₁.now a)) (sym (changed_here a _ w₁.gates)) (subst (λ z. Stands k life most a s' (z a) (met z (w₁.gates a))) (sym room.now_so) (subst (λ z. Stands k life most a s' (w.now a) (met w.now z)) (sym room.gate_so) (stands-met k life most a s (w.now a) g by st pe ((inv r es).memory a).apart to tag true (without_wait to g.waits) g.last_hello (reply_peer tag to s.now q) (ap (λ z. Some (fresh_talk to tag z true) ∷ take 2 q.talks) st.now_so) (length-map q.waits (emptied (has_tag to)) ∙ old.six) (λ j y e. old.placed j y (emptied-place to q.waits j y e)) old.greeted_so waits_e waits_j old.hello_so (λ j ne. refl))));
             net_so = room.net_so;
             put_so = room.put_so;
             out_so = room.out_so;
@@ -412,12 +413,12 @@ module _ (k life most : ℕ) (few : k ≤ 32) (owner : ℕ → ℕ) where
   -- the memory after a number came in the talk that was found
   came-stands : (es : List Ev) (a by m h n : ℕ) (s : Gateway) (u : Talk) → Stands k life most a s ((world r es).now a) ((world r es).gates a) → is_peer by s ≡ true →
       first_that (names h m) (peer_at by s).talks ≡ Some u → look_bits u.window n ≡ Fresh →
-      Stands k life most a (storing by (stored (heard_one n u) (peer_at by s)) s) ((world r es).now a) (with-sessions (change h (came n) ((world r es).gates a).talks) ((world r es).gates a))
+      Stands k life most a (storing by (heard_now s.now (stored (heard_one s.now n u) (peer_at by s))) s) ((world r es).now a) (with-sessions (change h (came n) ((world r es).gates a).talks) ((world r es).gates a))
   came-stands es a by m h n s u st pe found fresh =
       subst
-      (λ z. Stands k life most a (storing by (stored (heard_one n u) (peer_at by s)) s) ((world r es).now a) (with-sessions (change z (came n) ((world r es).gates a).talks) ((world r es).gates a)))
+      (λ z. Stands k life most a (storing by (heard_now s.now (stored (heard_one s.now n u) (peer_at by s))) s) ((world r es).now a) (with-sessions (change z (came n) ((world r es).gates a).talks) ((world r es).gates a)))
       mine-is
-      (stands-changed k life most a s ((world r es).now a) ((world r es).gates a) by st pe ((inv r es).memory a).apart (names h m) (came n) u (heard_one n u) found refl (λ t. refl) same)
+      (stands-changed k life most a s ((world r es).now a) ((world r es).gates a) by st pe ((inv r es).memory a).apart (names h m) (came n) u (heard_one s.now n u) found refl (λ t. refl) same (heard_now s.now (stored (heard_one s.now n u) (peer_at by s))) refl refl refl refl)
     where
       named : names h m u ≡ true
       named = (found_same (names h m) (with_peer by ((world r es).gates a).talks) (peer_at by s).talks u (st.peers_so by pe).talks_so found).3
@@ -425,7 +426,7 @@ module _ (k life most : ℕ) (few : k ≤ 32) (owner : ℕ → ℕ) where
       mine-is : u.mine ≡ h
       mine-is = eqb-true u.mine h (and_parts (eqb u.mine h) (eqb u.theirs m) named).0
 
-      same : (t : Session) → SameTalk t u → SameTalk (came n t) (heard_one n u)
+      same : (t : Session) → SameTalk t u → SameTalk (came n t) (heard_one s.now n u)
       same t q =
           record {
             mine_so = q.mine_so;
@@ -541,10 +542,10 @@ module _ (k life most : ℕ) (few : k ≤ 32) (owner : ℕ → ℕ) where
           fd = (found_talk_lem a by f m h n s u st.life_so q).0
 
   -- the parts of a packet's answer
-  pub owned_ok : (b : Bool) (v : Result Talk Refusal) (u : Talk) → if_owned b v ≡ Ok u → (b ≡ true) × (v ≡ Ok u)
-  owned_ok true (Ok t) u e = (refl, e)
-  owned_ok false (Ok t) u e = absurd (not-ok ForeignAddress u e)
-  owned_ok b (Err f) u e = absurd (not-ok f u e)
+  pub owned-ok : (b : Bool) (v : Result Talk Refusal) (u : Talk) → if_owned b v ≡ Ok u → (b ≡ true) × (v ≡ Ok u)
+  owned-ok true (Ok t) u e = (refl, e)
+  owned-ok false (Ok t) u e = absurd (not-ok ForeignAddress u e)
+  owned-ok b (Err f) u e = absurd (not-ok f u e)
 
   pub packet_so : (es : List Ev) (a by f m h n : ℕ) (y : Inner) (ts : List ℕ) (s : Gateway) (i : ℕ) → GreetsBelow k es → Stands k life most a s ((world r es).now a) ((world r es).gates a) →
       At i (PacketWord by f m h n y) (world r es).net →
@@ -603,7 +604,7 @@ module _ (k life most : ℕ) (few : k ≤ 32) (owner : ℕ → ℕ) where
           })
         where
           parts : (owned s.own ≡ true) × (found_talk by f m h n s ≡ Ok u)
-          parts = owned_ok (owned s.own) (found_talk by f m h n s) u q
+          parts = owned-ok (owned s.own) (found_talk by f m h n s) u q
 
           ok : (eqb f a ≡ true) × (comes_in r (w.now a) by h m n (w.gates a).talks ≡ true)
           ok = lets_come es a by f m h n s u st parts.1

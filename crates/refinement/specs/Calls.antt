@@ -1,9 +1,9 @@
 -- Which events of the abstract protocol each call of a gate's code is, and what it adds to the net, to what was put in and came out, and to the drawn tags.
 -- Assumes nothing.
-use Rattle.std.specs.Prelude.{ℕ, ◌-◌, ◌^◌, cond, List, [], ◌∷◌, Some, None, Ok, Err, Option, Result, nat_lt, slice_index_or}
+use Rattle.std.specs.Prelude.{ℕ, ◌-◌, ◌^◌, Bool, cond, List, [], ◌∷◌, ◌++◌, Some, None, Ok, Err, Option, Result, nat_lt, slice_index_or}
 use Rattle.protocol.specs.declared.refusals.Refusal.{Refusal}
 use Rattle.gates.specs.Talk.{Inner}
-use Rattle.gates.specs.World.{Note, Ev, Tick, Greets, Puts, Brings, Restarts, Drops, note}
+use Rattle.gates.specs.World.{Note, Ev, Tick, Greets, Puts, Brings, Restarts, Drops, Stays, note}
 use Rattle.gates.specs.World.{Word as Sealed, Hello as HelloWord, Reply as ReplyWord, Packet as PacketWord, Empty as EmptyWord}
 use Rattle.gates.specs.Promise.{by_of, note_of}
 use Rattle.gates.specs.Code.{Did}
@@ -106,6 +106,16 @@ put_as x (Some (Hello a e t n)) = []
 put_as x (Some (Reply a e t k)) = []
 put_as x (Some (Packet a e m h n source goal)) = note a e m h n x ∷ []
 put_as x (Some (Empty a e m h n)) = []
+
+-- the event of a packet that goes out
+abbrev pub puts_for : ℕ → Inner → Option Word → List Ev
+puts_for a x None = []
+puts_for a x (Some w) = Puts a x ∷ []
+
+-- the event of an empty one in a talk
+abbrev pub stays_for : ℕ → Option Talk → List Ev
+stays_for a None = []
+stays_for a (Some t) = Stays a t.mine ∷ []
 
 -- the answer to a packet that was put in
 abbrev pub gone_out : Result (Option Word) Refusal → Option Word

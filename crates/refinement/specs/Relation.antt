@@ -1,6 +1,6 @@
 -- For which gate of the abstract protocol a gate's memory stands. A relation: the memory forgets what can no longer matter, and its window says less than the
 -- list of all that came. Assumes nothing.
-use Rattle.std.specs.Prelude.{◌≡◌, ℕ, ◌%◌, ◌^◌, ◌<◌, ◌≤◌, true, cond, List, [], ◌∷◌, length, Some, None, Option, ◌==◌, slice_index_or}
+use Rattle.std.specs.Prelude.{◌≡◌, ℕ, ◌%◌, ◌^◌, ◌<◌, ◌≤◌, Bool, true, cond, List, [], ◌∷◌, length, Some, None, Option, ◌==◌, slice_index_or}
 use Rattle.gates.specs.Lists.{In}
 use Rattle.gates.specs.Talk.{Rules}
 use Rattle.gates.specs.Talk.{Talk as Session}
@@ -51,7 +51,8 @@ pub record SamePeer (now : ℕ) (g : Gate) (e : ℕ) (p : Peer) : Type 0 where
   pub three : length p.talks ≡ 3
   pub waits_so : (n t : ℕ) → now ≤ n → waits_for n e t g.waits ≡ is_asked n t p
   pub six : length p.waits ≡ 6
-  pub placed : (i : ℕ) (x : Wait) → slice_index_or p.waits i None ≡ Some x → (x.at % 6 ≡ i) × (x.at ≤ now)
+  pub placed : (i : ℕ) (x : Wait) → slice_index_or p.waits i None ≡ Some x → (x.at % 6 ≡ i) × (x.at ≤ p.greeted)
+  pub greeted_so : p.greeted ≤ now
   pub hello_so : g.last_hello e ≡ p.last_hello
 
 -- A gate's memory stands for an abstract gate a of k gates, at this tick of its clock.

@@ -152,7 +152,7 @@ tags_of [] = []
 tags_of (e ∷ es) = tag_of e ++ tags_of es
 
 -- what letters stand for, the latest first
-unfoldable pub backwards : {A : Type 0} → (Letter → List A) → List Letter → List A
+unfoldable pub backwards : {A B : Type 0} → (B → List A) → List B → List A
 backwards f [] = []
 backwards f (l ∷ ls) = backwards f ls ++ f l
 

@@ -5,7 +5,6 @@ ghost use Rattle.refinement.specs.Sea.{owner_in, sealed_of, letter_of, silent, b
 ghost use Rattle.gateway.specs.Steps.{took_after};
 ghost use Rattle.gateway.specs.Steps.{took as took_answer};
 
-use crate::calls::{greet, put, restart, take, tick};
 use crate::state::{Event, Letter, Outcome, Parcel};
 use gateway::{Gateway, Taken, Word};
 
@@ -107,7 +106,7 @@ fn bring(memory: &mut Gateway, owners: &[u8], letter: Letter, tag: u64) -> Outco
     ensures after { memory.new ≡ took_after (as_code (owner_in owners.now) (sealed_of letter)) tag memory.old }
     ensures adds { result ≡ brought_out letter (took_answer (as_code (owner_in owners.now) (sealed_of letter)) tag memory.old) }
 {
-    match take(memory, letter.opened(owners), tag) {
+    match memory.take(letter.opened(owners), tag) {
         Ok(Taken::Answer(word)) => {
             let parcel = Parcel {
                 from: 0,
@@ -136,11 +135,11 @@ pub(crate) fn act(memory: &mut Gateway, owners: &[u8], event: Event, letter: Let
 {
     match event {
         Event::Tick { gate: _ } => {
-            tick(memory);
+            memory.tick();
             Outcome::silent()
         }
         Event::Restart { gate: _ } => {
-            restart(memory);
+            memory.restart();
             Outcome::silent()
         }
         Event::Greet { gate: _, to, tag } => {
@@ -149,7 +148,7 @@ pub(crate) fn act(memory: &mut Gateway, owners: &[u8], event: Event, letter: Let
                 to: 0,
                 what: 0,
             };
-            let word = greet(memory, to, tag);
+            let word = memory.greet(to, tag);
             Outcome {
                 sent: letter_of(nobody, word),
                 put: None,
@@ -159,7 +158,7 @@ pub(crate) fn act(memory: &mut Gateway, owners: &[u8], event: Event, letter: Let
         Event::Put { gate: _, parcel } => {
             let source = owner_of(owners, parcel.from);
             let goal = owner_of(owners, parcel.to);
-            let word = match put(memory, source, goal) {
+            let word = match memory.put(source, goal) {
                 Ok(word) => word,
                 Err(_) => None,
             };

@@ -1,9 +1,11 @@
 // Gates and a net of words, driven by events; the promise stands on `play`. Assumes that drawn tags are new, where a contract says so.
 ghost use Rattle.std.specs.Prelude.{◌≡◌, ℕ, ◌+◌, ◌<◌, ◌≤◌, true, ◌++◌, length, take as front, is_ok, IfOk, if◌then◌else◌, Some, None, vec_len, vec_capacity};
+ghost use Rattle.gates.specs.World.{empty_gate};
+ghost use Rattle.gateway.specs.Steps.{fresh};
+ghost use Rattle.refinement.specs.Relation.{Stands};
 ghost use Rattle.refinement.specs.Sea.{list_of, is_there, letter_in, entered, happens, plays, Plays, Books, books_of, Begun, CanOpen};
 
 use crate::acts::act;
-use crate::calls::start;
 use crate::state::{Event, Letter, Outcome, Parcel, Sea};
 use gateway::{Gateway, Word};
 use std::alloc::{AllocError, Global};
@@ -16,6 +18,14 @@ fn note(list: &mut Vec<Letter>, letter: Option<Letter>)
     if let Some(letter) = letter {
         list.push_reserved(letter);
     }
+}
+
+/// A gate that was just made: its number, how many gates there are, and for how many ticks and numbers a talk is good.
+fn start(own: u8, gates: u8, life: u16, most: u32) -> Gateway
+    ensures value { result ≡ fresh own gates life most }
+    ensures stands { Stands gates life most own result 1 empty_gate }
+{
+    Gateway::new(own, gates, life, most)
 }
 
 impl Sea {

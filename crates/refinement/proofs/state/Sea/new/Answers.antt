@@ -1,4 +1,5 @@
-use Rattle.std.proofs.Common.{◌≡◌, [], ◌∷◌, ◌++◌, sym, ap, ◌∙◌, ap₂, arith}
+use Rattle.std.proofs.Common.{◌≡◌, ◌+◌, [], ◌∷◌, ◌++◌, sym, ap, ◌∙◌, ap₂, arith}
+use Rattle.gateway.specs.Steps.{fresh}
 use Rattle.refinement.specs.Sea.{new_gates}
 use Rattle.refinement.proofs.Begins.{new_none, new_more, begun}
 use Rattle.refinement.proofs.state.Sea.new.Goals as goal
@@ -8,7 +9,7 @@ loop-own-init c = c.new-all.ensures.items ∙ sym (new_none c.args.gates c.args.
 
 pub loop-own-preserved : goal.loop-own-preserved
 loop-own-preserved c =
-    c.in_ok-push.ensures.items ∙
+    c.in-ok-push.ensures.items ∙
     (ap₂ (λ xs s. xs ++ (s ∷ [])) c.loop-own.invariant c.start.ensures.value ∙ sym (new_more c.args.gates c.args.life c.args.most c.loop-own.own))
 
 pub returns : goal.returns

@@ -1,0 +1,9 @@
+pub mod Going
+pub mod Waiting
+pub mod Rounds
+pub mod Posting
+pub mod Own
+pub mod Greeting
+pub mod Asks
+pub mod Followed
+pub mod Idling

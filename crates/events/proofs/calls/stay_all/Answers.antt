@@ -1,0 +1,42 @@
+use Rattle.std.proofs.Common.{◌+◌, ◌*◌, sym, refl, ap, ◌∙◌, add-one, arith}
+use Rattle.events.specs.Flow.{flow_of, empties_in, empties_below}
+use Rattle.events.proofs.Flows.{empties_in_step, empties_step, ready_on, ready_less, turn}
+use Rattle.events.proofs.Outboxes.{itself}
+use Rattle.events.proofs.calls.stay_all.Goals as goal
+
+pub loop-gate-init : goal.loop-gate-init
+unfolding empties_below
+loop-gate-init c = (refl, sym (itself c.args.gateway.now c.args.outbox.now (omega arith)))
+
+pub stay-with-requires : goal.stay-with-requires
+stay-with-requires c =
+    ready_on
+    (3 * c.loop-gate.gate)
+    3
+    (empties_below c.loop-gate.gate (flow_of c.args.gateway.now c.args.outbox.now))
+    c.args.gateway.now
+    c.args.outbox.now
+    c.loop-gate.outbox
+    c.loop-gate.invariant.1
+    (empties_step c.loop-gate.gate (flow_of c.args.gateway.now c.args.outbox.now))
+    (ready_less 96 (3 * c.loop-gate.gate + 3) c.args.outbox.now (omega arith) c.requires)
+
+pub loop-gate-preserved : goal.loop-gate-preserved
+unfolding empties_below
+loop-gate-preserved c =
+    let f = empties_below c.loop-gate.gate (flow_of c.args.gateway.now c.args.outbox.now) in
+    turn
+    (λ g. empties_in c.loop-gate.gate 3 g)
+    f
+    (empties_below (c.loop-gate.gate + 1) (flow_of c.args.gateway.now c.args.outbox.now))
+    c.loop-gate.gateway
+    c.stay-with.new.gateway
+    c.args.outbox.now
+    c.loop-gate.outbox
+    c.stay-with.new.outbox
+    c.loop-gate.invariant.0
+    c.loop-gate.invariant.1
+    (empties_in_step c.loop-gate.gate 3 f).grows
+    c.stay-with.ensures.after
+    c.stay-with.ensures.out
+    (ap (λ n. empties_below n (flow_of c.args.gateway.now c.args.outbox.now)) (sym (add-one c.loop-gate.gate)))

@@ -1,0 +1,3 @@
+pub mod Outboxes
+pub mod Flow
+pub mod Calls
