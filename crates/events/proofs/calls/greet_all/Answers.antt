@@ -10,8 +10,8 @@ pub loop-to-init : goal.loop-to-init
 unfolding hellos_below
 loop-to-init c = (refl, cleared-quiet c.args.gateway.now c.args.outbox.now c.clear.new.self c.clear.ensures.after)
 
-pub greet-if-requires : goal.greet-if-requires
-greet-if-requires c =
+pub greet_if-requires : goal.greet_if-requires
+greet_if-requires c =
     ready_on
     c.loop-to.to
     1
@@ -30,21 +30,21 @@ pub loop-to-preserved : goal.loop-to-preserved
 unfolding hellos_below
 loop-to-preserved c =
     let f = hellos_below c.args.tags.now c.loop-to.to (quiet c.args.gateway.now) in
-    let d = c.is-due-at-tick-due.ensures ∙ ap (λ s. due_at Ticks c.loop-to.to s) c.loop-to.invariant.0 in
+    let d = c.is_due_at_tick-due.ensures ∙ ap (λ s. due_at Ticks c.loop-to.to s) c.loop-to.invariant.0 in
     turn
-    (λ g. greet_if c.is-due-at-tick-due.result c.args.tags.now c.loop-to.to g)
+    (λ g. greet_if c.is_due_at_tick-due.result c.args.tags.now c.loop-to.to g)
     f
     (hellos_below c.args.tags.now (c.loop-to.to + 1) (quiet c.args.gateway.now))
     c.loop-to.gateway
-    c.greet-if.new.gateway
+    c.greet_if.new.gateway
     c.clear.new.self
     c.loop-to.outbox
-    c.greet-if.new.outbox
+    c.greet_if.new.outbox
     c.loop-to.invariant.0
     c.loop-to.invariant.1
-    (greet-step c.is-due-at-tick-due.result c.args.tags.now c.loop-to.to f).grows
-    c.greet-if.ensures.after
-    c.greet-if.ensures.out
+    (greet-step c.is_due_at_tick-due.result c.args.tags.now c.loop-to.to f).grows
+    c.greet_if.ensures.after
+    c.greet_if.ensures.out
     (ap (λ b. greet_if b c.args.tags.now c.loop-to.to f) d ∙ ap (λ n. hellos_below c.args.tags.now n (quiet c.args.gateway.now)) (sym (add-one c.loop-to.to)))
 
 pub returns : goal.returns

@@ -17,29 +17,29 @@ returns-in-Some c =
     said
     c.args.tags.now
     c.args.to
-    c.tag-at-tag.result
+    c.tag_at-tag.result
     c.args.gateway.now
     c.args.outbox.now
     c.args.due
     c.in-Some.word
     c.if-not-due.false
-    c.tag-at-tag.ensures
+    c.tag_at-tag.ensures
     (sym c.greet.ensures.answer ∙ c.in-Some.is)
     (omega arith) in
     record { after = c.greet.ensures.after ∙ p.0; out = ap used_more c.add.ensures ∙ p.1 }
 
-pub returns-in-default : goal.returns-in-default
-returns-in-default c =
+pub returns-in_default : goal.returns-in_default
+returns-in_default c =
     let p =
     not-said
     c.args.tags.now
     c.args.to
-    c.tag-at-tag.result
+    c.tag_at-tag.result
     c.args.gateway.now
     c.args.outbox.now
     c.args.due
     c.if-not-due.false
-    c.tag-at-tag.ensures
-    (sym c.greet.ensures.answer ∙ none_of c.greet.result c.in-default.not-Some)
+    c.tag_at-tag.ensures
+    (sym c.greet.ensures.answer ∙ none_of c.greet.result c.in_default.not-Some)
     (omega arith) in
     record { after = c.greet.ensures.after ∙ p.0; out = p.1 }

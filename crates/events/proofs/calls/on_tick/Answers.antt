@@ -12,15 +12,15 @@ returns c =
     (λ g. empties_below 32 g)
     f
     (on_tick c.args.tags.now c.args.gateway.now)
-    c.greet-all.new.gateway
-    c.stay-all.new.gateway
+    c.greet_all.new.gateway
+    c.stay_all.new.gateway
     c.args.outbox.now
-    c.greet-all.new.outbox
-    c.stay-all.new.outbox
-    c.greet-all.ensures.after
-    c.greet-all.ensures.out
+    c.greet_all.new.outbox
+    c.stay_all.new.outbox
+    c.greet_all.ensures.after
+    c.greet_all.ensures.out
     (empties_step 32 f).grows
-    c.stay-all.ensures.after
-    c.stay-all.ensures.out
+    c.stay_all.ensures.after
+    c.stay_all.ensures.out
     (ap (λ s. empties_below 32 (hellos_below c.args.tags.now 32 (quiet s))) c.tick.ensures) in
     record { after = p.0; out = p.1 }

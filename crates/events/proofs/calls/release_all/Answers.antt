@@ -8,8 +8,8 @@ pub loop-init : goal.loop-init
 unfolding drains
 loop-init c = (refl, sym (itself c.args.gateway.now c.args.outbox.now (omega arith)))
 
-pub release-one-requires : goal.release-one-requires
-release-one-requires c =
+pub release_one-requires : goal.release_one-requires
+release_one-requires c =
     ready_on
     (2 * c.loop.counter)
     2
@@ -30,13 +30,13 @@ loop-preserved c =
     f
     (drains c.args.tags.now c.args.to (c.loop.counter + 1) (flow_of c.args.gateway.now c.args.outbox.now))
     c.loop.gateway
-    c.release-one.new.gateway
+    c.release_one.new.gateway
     c.args.outbox.now
     c.loop.outbox
-    c.release-one.new.outbox
+    c.release_one.new.outbox
     c.loop.invariant.0
     c.loop.invariant.1
     (releases-step c.args.tags.now c.args.to f).grows
-    c.release-one.ensures.after
-    c.release-one.ensures.out
+    c.release_one.ensures.after
+    c.release_one.ensures.out
     (ap (λ n. drains c.args.tags.now c.args.to n (flow_of c.args.gateway.now c.args.outbox.now)) (sym (add-one c.loop.counter)))

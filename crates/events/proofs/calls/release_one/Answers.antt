@@ -6,8 +6,8 @@ use Rattle.events.proofs.Flows.{emits-some, emits-step, greet-step, none_release
 use Rattle.events.proofs.Outboxes.{none_of}
 use Rattle.events.proofs.calls.release_one.Goals as goal
 
-pub returns-in-default : goal.returns-in-default
-returns-in-default c =
+pub returns-in_default : goal.returns-in_default
+returns-in_default c =
     let p =
     none_released
     (release c.args.to c.args.gateway.now)
@@ -17,12 +17,12 @@ returns-in-default c =
     c.args.gateway.now
     (release_after c.args.to c.args.gateway.now)
     c.args.outbox.now
-    (sym c.release.ensures.answer ∙ none_of c.release.result c.in-default.not-Some)
+    (sym c.release.ensures.answer ∙ none_of c.release.result c.in_default.not-Some)
     (omega arith) in
     record { after = c.release.ensures.after ∙ p.0; out = p.1 }
 
-pub greet-if-requires : goal.greet-if-requires
-greet-if-requires c =
+pub greet_if-requires : goal.greet_if-requires
+greet_if-requires c =
     let f = emits (release c.args.to c.args.gateway.now) (release_after c.args.to c.args.gateway.now) (flow_of c.args.gateway.now c.args.outbox.now) in
     ready_on
     1
@@ -50,22 +50,22 @@ returns c =
     let f = emits x v (flow_of c.args.gateway.now c.args.outbox.now) in
     let is = sym c.release.ensures.answer ∙ c.in-Some.is in
     let due =
-    c.is-due-after-sending-due.ensures ∙
+    c.is_due_after_sending-due.ensures ∙
     (ap (λ a. due_at (Sends a) c.args.to c.release.new.self) c.ages-aged.ensures ∙ ap (λ g. due_at (Sends (ages c.args.to c.args.gateway.now)) c.args.to g) c.release.ensures.after) in
     let p =
     turn
-    (λ g. greet_if c.is-due-after-sending-due.result c.args.tags.now c.args.to g)
+    (λ g. greet_if c.is_due_after_sending-due.result c.args.tags.now c.args.to g)
     f
     (releases c.args.tags.now c.args.to (flow_of c.args.gateway.now c.args.outbox.now))
     c.release.new.self
-    c.greet-if.new.gateway
+    c.greet_if.new.gateway
     c.args.outbox.now
     c.add.new.self
-    c.greet-if.new.outbox
+    c.greet_if.new.outbox
     c.release.ensures.after
     (c.add.ensures ∙ emits-some c.in-Some.word x c.args.gateway.now v c.args.outbox.now is (omega arith))
-    (greet-step c.is-due-after-sending-due.result c.args.tags.now c.args.to f).grows
-    c.greet-if.ensures.after
-    c.greet-if.ensures.out
+    (greet-step c.is_due_after_sending-due.result c.args.tags.now c.args.to f).grows
+    c.greet_if.ensures.after
+    c.greet_if.ensures.out
     (ap (λ b. greet_if b c.args.tags.now c.args.to f) (due ∙ some_is x c.in-Some.word (due_at (Sends (ages c.args.to c.args.gateway.now)) c.args.to v) is)) in
     record { after = p.0; out = p.1 }

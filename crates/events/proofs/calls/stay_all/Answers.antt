@@ -8,8 +8,8 @@ pub loop-gate-init : goal.loop-gate-init
 unfolding empties_below
 loop-gate-init c = (refl, sym (itself c.args.gateway.now c.args.outbox.now (omega arith)))
 
-pub stay-with-requires : goal.stay-with-requires
-stay-with-requires c =
+pub stay_with-requires : goal.stay_with-requires
+stay_with-requires c =
     ready_on
     (3 * c.loop-gate.gate)
     3
@@ -30,13 +30,13 @@ loop-gate-preserved c =
     f
     (empties_below (c.loop-gate.gate + 1) (flow_of c.args.gateway.now c.args.outbox.now))
     c.loop-gate.gateway
-    c.stay-with.new.gateway
+    c.stay_with.new.gateway
     c.args.outbox.now
     c.loop-gate.outbox
-    c.stay-with.new.outbox
+    c.stay_with.new.outbox
     c.loop-gate.invariant.0
     c.loop-gate.invariant.1
     (empties_in_step c.loop-gate.gate 3 f).grows
-    c.stay-with.ensures.after
-    c.stay-with.ensures.out
+    c.stay_with.ensures.after
+    c.stay_with.ensures.out
     (ap (λ n. empties_below n (flow_of c.args.gateway.now c.args.outbox.now)) (sym (add-one c.loop-gate.gate)))

@@ -20,8 +20,8 @@ returns-in-Some c =
           (omega arith);
     }
 
-pub returns-in-default : goal.returns-in-default
-returns-in-default c =
+pub returns-in_default : goal.returns-in_default
+returns-in_default c =
     record {
       after = c.stay.ensures.after;
       out =
@@ -30,6 +30,6 @@ returns-in-default c =
           c.args.gateway.now
           (stay_after c.args.gate c.args.place c.args.gateway.now)
           c.args.outbox.now
-          (sym c.stay.ensures.answer ∙ none_of c.stay.result c.in-default.not-Some)
+          (sym c.stay.ensures.answer ∙ none_of c.stay.result c.in_default.not-Some)
           (omega arith);
     }

@@ -9,8 +9,8 @@ pub loop-place-init : goal.loop-place-init
 unfolding empties_in
 loop-place-init c = (refl, sym (itself c.args.gateway.now c.args.outbox.now (omega arith)))
 
-pub stay-in-requires : goal.stay-in-requires
-stay-in-requires c =
+pub stay_in-requires : goal.stay_in-requires
+stay_in-requires c =
     ready_on
     c.loop-place.place
     1
@@ -31,13 +31,13 @@ loop-place-preserved c =
     f
     (empties_in c.args.gate (c.loop-place.place + 1) (flow_of c.args.gateway.now c.args.outbox.now))
     c.loop-place.gateway
-    c.stay-in.new.gateway
+    c.stay_in.new.gateway
     c.args.outbox.now
     c.loop-place.outbox
-    c.stay-in.new.outbox
+    c.stay_in.new.outbox
     c.loop-place.invariant.0
     c.loop-place.invariant.1
     (emits-step (stay c.args.gate c.loop-place.place f.memory) (stay_after c.args.gate c.loop-place.place f.memory) f).grows
-    c.stay-in.ensures.after
-    c.stay-in.ensures.out
+    c.stay_in.ensures.after
+    c.stay_in.ensures.out
     (ap (λ n. empties_in c.args.gate n (flow_of c.args.gateway.now c.args.outbox.now)) (sym (add-one c.loop-place.place)))
