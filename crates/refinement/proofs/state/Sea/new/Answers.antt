@@ -9,7 +9,7 @@ loop-own-init c = c.new-all.ensures.items ∙ sym (new_none c.args.gates c.args.
 
 pub loop-own-preserved : goal.loop-own-preserved
 loop-own-preserved c =
-    c.in-ok-push.ensures.items ∙
+    c.in_ok-push.ensures.items ∙
     (ap₂ (λ xs s. xs ++ (s ∷ [])) c.loop-own.invariant c.start.ensures.value ∙ sym (new_more c.args.gates c.args.life c.args.most c.loop-own.own))
 
 pub returns : goal.returns

@@ -7,9 +7,9 @@ use Rattle.refinement.proofs.state.Sea.play.Goals as goal
 pub loop-event-init : goal.loop-event-init
 loop-event-init c = (refl, sym (plays-none c.args.owners.now (books_of c.args.self.now)))
 
-pub returns-then-is-err : goal.returns-then-is-err
-returns-then-is-err c =
-    let played = c.step.ensures ∙ (cond-false (is_ok c.step.result) _ _ c.if-is-err.ensures.negation ∙ (c.loop-event.invariant.1 ∙ ap (λ n. plays c.args.owners.now (take n c.args.events.now) (books_of c.args.self.now)) (sym c.loop-event.invariant.0))) in
+pub returns-then-is_err : goal.returns-then-is_err
+returns-then-is_err c =
+    let played = c.step.ensures ∙ (cond-false (is_ok c.step.result) _ _ c.if-is_err.ensures.negation ∙ (c.loop-event.invariant.1 ∙ ap (λ n. plays c.args.owners.now (take n c.args.events.now) (books_of c.args.self.now)) (sym c.loop-event.invariant.0))) in
     record {
       within = omega arith;
       played = played;
@@ -29,7 +29,7 @@ loop-event-preserved c =
           (is_ok c.step.result)
           c.loop-event.event-index
           c.step.ensures
-          c.if-is-err.ensures.negation
+          c.if-is_err.ensures.negation
           c.loop-event.invariant.1
           less,
     )
