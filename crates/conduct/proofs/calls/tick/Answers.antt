@@ -5,7 +5,7 @@ use Rattle.conduct.proofs.calls.tick.Goals as goal
 pub returns : goal.returns
 returns c =
     record {
-      after = c.on-tick.ensures.after;
-      out = c.on-tick.ensures.out;
-      follows = tick_follows _ _ _ _ c.on-tick.ensures.after (listed-is (on_tick c.args.tags.now c.args.gateway.now) c.args.outbox.now _ c.on-tick.ensures.out);
+      after = c.on_tick.ensures.after;
+      out = c.on_tick.ensures.out;
+      follows = tick_follows _ _ _ _ c.on_tick.ensures.after (listed-is (on_tick c.args.tags.now c.args.gateway.now) c.args.outbox.now _ c.on_tick.ensures.out);
     }
