@@ -1,5 +1,5 @@
 -- The calls of gates, with all that they send by themselves, are the code that the abstract protocol asks for. Assumes nothing.
-use Rattle.std.proofs.Common.{◌≡◌, ℕ, ◌^◌, ◌<◌, ◌≤◌, [], get_or, sym, refl, ap, arith}
+use Rattle.std.proofs.Common.{ℕ, ◌^◌, ◌<◌, ◌≤◌, sym, refl, ap}
 use mathlib.Core.List.Memᴰ
 use Rattle.std.proofs.lemmas.List.{get_or-replicate}
 use Rattle.gates.specs.World.{empty_gate}

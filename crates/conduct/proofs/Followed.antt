@@ -1,9 +1,9 @@
 -- Each call, by its answer, the memory after it and the words that it put out, means what its events do. Assumes nothing.
-use Rattle.std.proofs.Common.{◌≡◌, ℕ, List, [], ◌∷◌, ◌++◌, length, take, drop, Some, None, Ok, Err, Option, Result, sym, refl, ap, ◌∙◌, subst, take_at}
+use Rattle.std.proofs.Common.{◌≡◌, ℕ, List, [], ◌∷◌, length, drop, Some, None, Ok, Err, Option, Result, sym, refl, ap, ◌∙◌, subst, take_at}
 use Rattle.protocol.specs.declared.refusals.Refusal.{Refusal}
 use Rattle.gates.specs.Talk.{Inner}
 use Rattle.gates.specs.Promise.{by_of}
-use Rattle.gates.specs.World.{Ev, changed, world}
+use Rattle.gates.specs.World.{changed}
 use Rattle.gateway.specs.declared.state.Gateway.{Gateway}
 use Rattle.gateway.specs.declared.state.Word.{Word}
 use Rattle.gateway.specs.declared.state.Taken.{Taken}
@@ -12,10 +12,9 @@ use Rattle.events.specs.declared.state.Outbox.{Outbox}
 use Rattle.events.specs.declared.state.PutIn.{PutIn}
 use Rattle.events.specs.Flow.{Flow, holding}
 use Rattle.events.specs.Calls.{on_tick, on_packet, on_word, put_in}
-use Rattle.refinement.specs.Relation.{rules_of}
 use Rattle.refinement.specs.Calls.{drawn_of, as_code, out_for}
 use Rattle.conduct.specs.Loads.{loads, left_of, sent_of, put_of, drew_of}
-use Rattle.conduct.specs.Posts.{Post, Ticks, Sends, Falls, queued_by, doing, hearing}
+use Rattle.conduct.specs.Posts.{Ticks, Sends, Falls, queued_by, doing, hearing}
 use Rattle.conduct.specs.Follow.{listed, did, Does, TickFollows, queued_as, PutFollows, TakeFollows, RestartFollows}
 use Rattle.conduct.proofs.Posting.{does_so, hears-does}
 

@@ -1,6 +1,6 @@
 -- Words that go out one after the other: each adds its event, and what is asked of all holds after each. Assumes nothing.
-use Rattle.std.proofs.Common.{◌≡◌, ℕ, zero, suc, ◌+◌, ◌-◌, ◌^◌, ◌<◌, ◌≤◌, Bool, true, false, cond, not, ◌&&◌, ◌||◌, eqb, ltb, leb, ◌⊎◌, List, [], ◌∷◌, ◌++◌, length, get_or, drop, Some, None, Option, sym, refl, ap, ◌∙◌, subst, ap₂, inl, inr, ⊎_elim, append_assoc, append-nil, add-zero, arith}
-use Rattle.std.proofs.lemmas.Bool.{cond_both, cond-true, cond-false, eqb-true, eqb-false, eq-eqb, ne_eqb, and_parts, and_from, ltb-true, not-true, not_from_false}
+use Rattle.std.proofs.Common.{◌≡◌, ℕ, ◌+◌, ◌^◌, ◌<◌, ◌≤◌, Bool, true, false, not, ◌&&◌, ◌||◌, eqb, ltb, List, [], ◌∷◌, ◌++◌, length, get_or, drop, Some, None, Option, sym, refl, ap, ◌∙◌, subst, ap₂, append_assoc, append-nil, add-zero, arith}
+use Rattle.std.proofs.lemmas.Bool.{cond-true, cond-false, eqb-false, ne_eqb, and_parts, and_from, not-true, not_from_false}
 use Rattle.gates.specs.Talk.{Rules, Inner, is_in}
 use Rattle.gates.specs.World.{Gate, World, Ev, Note, is_new, world}
 use Rattle.gates.specs.World.{Word as Sealed}
@@ -8,8 +8,8 @@ use Rattle.gates.specs.Code.{Did, Follows, AllNew}
 use Rattle.gateway.specs.declared.state.Talk.{Talk}
 use Rattle.gateway.specs.declared.state.Gateway.{Gateway}
 use Rattle.gateway.specs.declared.state.Word.{Word}
-use Rattle.gateway.specs.declared.state.Word.TheVariants.{Hello, Reply, Packet, Empty}
-use Rattle.gateway.specs.Steps.{peer_at, is_peer, storing, greet, greet_after, may_greet, stay, stay_after, idle_at, empty_in, stayed_by}
+use Rattle.gateway.specs.declared.state.Word.TheVariants.{Hello}
+use Rattle.gateway.specs.Steps.{peer_at, is_peer, storing, may_greet, idle_at, empty_in, stayed_by}
 use Rattle.gateway.specs.Peers.{asked}
 use Rattle.refinement.specs.Relation.{rules_of, Stands}
 use Rattle.refinement.specs.Calls.{Says, nothing, sent_as, drawn_as, doing, does, as_word, put_as}
@@ -17,7 +17,7 @@ use Rattle.refinement.specs.Sea.{backwards}
 use Rattle.refinement.proofs.Asked.{says_so}
 use Rattle.refinement.proofs.Sending.{stays_so}
 use Rattle.events.specs.Flow.{Flow, quiet, as_list, emits, next_tag, says, greet_if, stays}
-use Rattle.conduct.specs.Loads.{Load, carries, carried, loads, left_of, drawn_for, event_for, sent_of, put_of, drew_of, events_of, did_by}
+use Rattle.conduct.specs.Loads.{Load, carries, carried, loads, left_of, drawn_for, event_for, events_of, did_by}
 
 -- one more at the end of a list that is read backwards
 pub backwards_more : {A B : Type 0} (f : B → List A) (ls : List B) (l : B) → backwards f (ls ++ (l ∷ [])) ≡ f l ++ backwards f ls

@@ -1,22 +1,21 @@
 -- At a tick hellos go to just the gates to which one is due, while there are tags. Assumes nothing.
-use Rattle.std.proofs.Common.{◌≡◌, ℕ, zero, suc, ◌+◌, ◌<◌, ◌≤◌, Bool, true, false, cond, not, ◌&&◌, ◌||◌, eqb, ltb, ◌⊎◌, List, [], ◌∷◌, ◌++◌, length, get_or, drop, set, Some, None, Option, sym, refl, ap, ◌∙◌, subst, inl, inr, ⊎_elim, append-nil, add-zero, arith, length-append, length-set, get_or-set_other}
-use Rattle.std.proofs.lemmas.Bool.{cond-true, cond-false, and_parts, and_from, or_cases, lt-ltb, ne_eqb, not_from_false}
+use Rattle.std.proofs.Common.{◌≡◌, ℕ, zero, suc, ◌+◌, ◌<◌, ◌≤◌, Bool, true, false, cond, not, ◌&&◌, ◌||◌, eqb, ltb, List, [], ◌∷◌, ◌++◌, length, get_or, drop, Some, None, Option, sym, refl, ap, ◌∙◌, subst, ⊎_elim, append-nil, arith, length-append, get_or-set_other}
+use Rattle.std.proofs.lemmas.Bool.{cond-true, and_parts, and_from, or_cases, ne_eqb, not_from_false}
 use Rattle.std.proofs.lemmas.Bool.Decides.{nat_tests}
 use Rattle.gates.specs.Talk.{Inner}
-use Rattle.gates.specs.Timer.{Timer, Ticks, due, queued, silent, recently}
+use Rattle.gates.specs.Timer.{Timer, Ticks, due, queued, silent}
 use Rattle.gates.specs.Code.{greeted, Enough}
 use Rattle.gateway.specs.declared.state.Talk.{Talk}
-use Rattle.gateway.specs.declared.state.Peer.{Peer}
 use Rattle.gateway.specs.declared.state.Gateway.{Gateway}
 use Rattle.gateway.specs.declared.state.Word.{Word}
 use Rattle.gateway.specs.declared.state.Word.TheVariants.{Hello, Reply, Packet, Empty}
 use Rattle.gateway.specs.Peers.{asked}
-use Rattle.gateway.specs.Steps.{blank, peer_at, is_peer, storing, ticked, may_greet, greet, greet_after, idle_at, empty_in, stayed_by, timer, due_at, greets_below, greets}
+use Rattle.gateway.specs.Steps.{blank, peer_at, is_peer, storing, ticked, may_greet, greet, greet_after, idle_at, empty_in, timer, due_at, greets_below, greets}
 use Rattle.refinement.specs.Calls.{as_word}
 use Rattle.refinement.specs.Sea.{backwards}
-use Rattle.events.specs.Flow.{Flow, quiet, as_list, emits, next_tag, says, greet_if, hellos_below, stays, empties_in, empties_below}
+use Rattle.events.specs.Flow.{Flow, quiet, as_list, next_tag, greet_if, hellos_below, stays, empties_in, empties_below}
 use Rattle.events.specs.Calls.{on_tick}
-use Rattle.conduct.specs.Loads.{Load, carries, carried, loads, sent_of}
+use Rattle.conduct.specs.Loads.{carries, carried, loads, sent_of}
 use Rattle.conduct.specs.Posts.{Post}
 
 -- the gate that a hello is for

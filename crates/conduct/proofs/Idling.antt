@@ -1,5 +1,5 @@
 -- What waits has no talk to send it by, after every call. Assumes nothing.
-use Rattle.std.proofs.Common.{◌≡◌, ℕ, zero, suc, ◌+◌, ◌-◌, ◌^◌, ◌<◌, ◌≤◌, min, Bool, true, false, cond, not, ◌&&◌, ◌||◌, eqb, ltb, leb, ◌⊎◌, List, [], ◌∷◌, ◌++◌, map, length, get_or, take, set, replicate, Some, None, Ok, Err, Option, Result, sym, refl, ap, ◌∙◌, subst, inl, inr, ⊎_elim, arith, length-set, get_or-set_other, get_or-set_same}
+use Rattle.std.proofs.Common.{◌≡◌, ℕ, zero, suc, ◌+◌, ◌-◌, ◌^◌, ◌<◌, ◌≤◌, Bool, true, false, cond, ◌&&◌, eqb, ltb, ◌⊎◌, List, [], ◌∷◌, length, get_or, take, set, Some, None, Ok, Err, Option, Result, sym, refl, ap, ◌∙◌, subst, inl, inr, ⊎_elim, arith, length-set, get_or-set_other, get_or-set_same}
 use lib.ListN.{length-map}
 use Rattle.std.proofs.lemmas.List.{get_or-map, get_or-replicate}
 use Rattle.std.proofs.lemmas.Bool.{cond_both, cond-true, cond-false, and_parts, and_cases, and_left, and_right, ltb-true, ltb-false, leb-true, leb-false, le-leb, lt-leb, cases_eq, cases_lt, cases_Bool}
@@ -12,17 +12,16 @@ use Rattle.gateway.specs.declared.state.Peer.{Peer}
 use Rattle.gateway.specs.declared.state.Gateway.{Gateway}
 use Rattle.gateway.specs.declared.state.Word.{Word}
 use Rattle.gateway.specs.declared.state.Word.TheVariants.{Hello, Reply, Packet, Empty}
-use Rattle.gateway.specs.declared.state.Taken.{Taken}
 use Rattle.gateway.specs.declared.state.Taken.TheVariants.{Answer, Sure, Out, Alive}
 use Rattle.gateway.specs.Slots.{first_that}
-use Rattle.gateway.specs.Talks.{may_send, lives, sent_one, fresh_talk}
+use Rattle.gateway.specs.Talks.{may_send, sent_one}
 use Rattle.gateway.specs.Rules.{idle, if_idle}
 use Rattle.gateway.specs.Peers.{unknown, forgotten, asked, stored, with_waiting}
-use Rattle.gateway.specs.Steps.{blank, fresh, peer_at, is_peer, storing, answer, leaves, sending, room_fault, put_fault, packet_in, sent_to, sent_after, may_greet, greet_after, is_waiting, release, release_after, released_by, idle_at, stayed_by, stay_after, hello_fault, hello_peer, reply_fault, reply_peer, packet_talk, found_talk, heard_after, took, took_after, ticked, restarted, due_at, ages}
+use Rattle.gateway.specs.Steps.{blank, fresh, peer_at, is_peer, storing, answer, leaves, sending, room_fault, put_fault, packet_in, sent_to, sent_after, may_greet, greet_after, is_waiting, release_after, released_by, idle_at, stayed_by, stay_after, hello_fault, hello_peer, reply_fault, reply_peer, packet_talk, found_talk, heard_after, ticked, restarted, due_at, ages}
 use Rattle.gateway.specs.Steps.{taken as answered-as}
 use Rattle.refinement.proofs.Standing.{peer_bound}
-use Rattle.events.specs.Flow.{Flow, quiet, next_tag, greet_if, hellos_below, stays, empties_in, empties_below, emits, releases, drains}
-use Rattle.events.specs.Calls.{on_tick, posted, on_packet, heeded, on_word}
+use Rattle.events.specs.Flow.{Flow, quiet, next_tag, greet_if, hellos_below, empties_in, empties_below, drains}
+use Rattle.events.specs.Calls.{posted, on_packet, heeded, on_word}
 use Rattle.conduct.specs.Queues.{Idle, StaysIdle}
 
 no_talk : (u : Talk) → ◌≡◌ {A = Option Talk} None (Some u) → ⊥

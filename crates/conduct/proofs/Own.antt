@@ -1,5 +1,5 @@
 -- All events of a call are its gate's own, and it greets none but the gates that there are. Assumes nothing.
-use Rattle.std.proofs.Common.{◌≡◌, ℕ, zero, suc, ◌+◌, ◌-◌, ◌^◌, ◌<◌, ◌≤◌, Bool, true, false, cond, not, ◌&&◌, eqb, ltb, List, [], ◌∷◌, ◌++◌, length, drop, Some, None, Ok, Err, Option, Result, sym, refl, ap, ◌∙◌, subst, append-nil, arith}
+use Rattle.std.proofs.Common.{◌≡◌, ℕ, zero, suc, ◌+◌, ◌-◌, ◌^◌, ◌<◌, ◌≤◌, Bool, true, false, cond, ltb, List, [], ◌∷◌, ◌++◌, length, drop, Some, None, Ok, Err, Option, Result, sym, refl, ◌∙◌, subst, append-nil, arith}
 use Rattle.std.proofs.lemmas.Bool.{cond_both, cond-true, cond-false, and_parts, ltb-true}
 use Rattle.protocol.specs.declared.refusals.Refusal.{Refusal}
 use Rattle.protocol.specs.Limits.{queue_limit}
@@ -7,21 +7,19 @@ use Rattle.gates.specs.Talk.{Inner}
 use Rattle.gates.specs.World.{Gate, Ev, Tick, Restarts}
 use Rattle.gates.specs.World.{Word as Sealed}
 use Rattle.gates.specs.Promise.{by_of}
-use Rattle.gates.specs.Timer.{Queues, Sends as SendsDeed}
+use Rattle.gates.specs.Timer.{Sends as SendsDeed}
 use Rattle.gates.specs.Code.{AllOfGate}
 use Rattle.gateway.specs.declared.state.Talk.{Talk}
 use Rattle.gateway.specs.declared.state.Gateway.{Gateway}
 use Rattle.gateway.specs.declared.state.Word.{Word}
 use Rattle.gateway.specs.declared.state.Word.TheVariants.{Hello, Reply, Packet, Empty}
-use Rattle.gateway.specs.declared.state.Taken.{Taken}
 use Rattle.gateway.specs.declared.state.Taken.TheVariants.{Answer, Sure, Out, Alive}
 use Rattle.gateway.specs.Peers.{asked}
 use Rattle.gateway.specs.Talks.{sent_one}
-use Rattle.gateway.specs.Steps.{peer_at, is_peer, storing, may_greet, greet, greet_after, idle_at, empty_in, stayed_by, stay, stay_after, is_waiting, sending, packet_in, release, release_after, released_by, answer, leaves, put_fault, put, put_after, sent_after, hello_fault, hello_peer, reply_fault, reply_peer, packet_talk, found_talk, heard_after, took, took_after, ticked, due_at, ages}
+use Rattle.gateway.specs.Steps.{peer_at, is_peer, storing, may_greet, greet, greet_after, idle_at, empty_in, stayed_by, is_waiting, sending, packet_in, release, release_after, released_by, answer, leaves, put_fault, sent_after, hello_fault, hello_peer, reply_fault, reply_peer, packet_talk, found_talk, heard_after, ticked, due_at, ages}
 use Rattle.gateway.specs.Steps.{taken as answered-as}
 use Rattle.refinement.specs.Calls.{as_code, drawn_of}
 use Rattle.refinement.specs.Calls as single
-use Rattle.refinement.specs.Relation.{Stands}
 use Rattle.refinement.proofs.Playing.{hears-own}
 use Rattle.events.specs.Flow.{Flow, quiet, as_list, emits, next_tag, says, greet_if, hellos_below, stays, empties_in, empties_below, releases, drains}
 use Rattle.events.specs.Calls.{on_tick, posted, on_packet, heeded, on_word}

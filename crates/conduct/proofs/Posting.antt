@@ -1,13 +1,13 @@
 -- Each call of a gate, with the packets that wait beside its memory, is what its events say. Assumes nothing.
-use Rattle.std.proofs.Common.{◌≡◌, ℕ, zero, suc, ◌+◌, ◌-◌, ◌^◌, ◌<◌, ◌≤◌, Bool, true, false, cond, not, ◌&&◌, ◌||◌, eqb, ltb, leb, ◌⊎◌, List, [], ◌∷◌, ◌++◌, length, get_or, set, Some, None, Ok, Err, Option, Result, sym, refl, ap, ◌∙◌, subst, ap₂, inl, inr, ⊎_elim, append_assoc, append-nil, arith, length-append, get_or-set_other, get_or-set_same}
+use Rattle.std.proofs.Common.{◌≡◌, ℕ, ◌+◌, ◌^◌, ◌<◌, ◌≤◌, Bool, true, false, cond, not, ◌&&◌, eqb, ltb, ◌⊎◌, List, [], ◌∷◌, ◌++◌, length, Some, None, Ok, Err, Option, Result, sym, refl, ap, ◌∙◌, subst, inl, inr, ⊎_elim, append_assoc, append-nil, arith, length-append, get_or-set_other, get_or-set_same}
 use mathlib.Core.List.Memᴰ
 use Rattle.std.proofs.lemmas.List.{get_or-map}
-use Rattle.std.proofs.lemmas.Bool.{cond_both, cond-true, cond-false, eqb-true, eqb-false, eq-eqb, ne_eqb, and_parts, and_from, ltb-true, not-true, cases_eq}
+use Rattle.std.proofs.lemmas.Bool.{eqb-true, and_parts, cases_eq}
 use Rattle.protocol.specs.declared.refusals.Refusal.{Refusal}
-use Rattle.protocol.specs.declared.refusals.Refusal.TheVariants.{ForeignAddress, NoRoute, QueueFull, WrongGate}
+use Rattle.protocol.specs.declared.refusals.Refusal.TheVariants.{ForeignAddress, NoRoute, WrongGate}
 use Rattle.protocol.specs.Limits.{queue_limit}
 use Rattle.gates.specs.Lists.{In, At}
-use Rattle.gates.specs.Talk.{Rules, Inner, is_in}
+use Rattle.gates.specs.Talk.{Rules, Inner}
 use Rattle.gates.specs.World.{Gate, World, Ev, changed, world}
 use Rattle.gates.specs.World.{Word as Sealed, Hello as HelloWord, Reply as ReplyWord, Packet as PacketWord, Empty as EmptyWord}
 use Rattle.gates.specs.Promise.{GreetsBelow, by_of}
@@ -17,7 +17,7 @@ use Rattle.gateway.specs.declared.state.Talk.{Talk}
 use Rattle.gateway.specs.declared.state.Peer.{Peer}
 use Rattle.gateway.specs.declared.state.Gateway.{Gateway}
 use Rattle.gateway.specs.declared.state.Word.{Word}
-use Rattle.gateway.specs.declared.state.Word.TheVariants.{Hello, Reply, Packet, Empty}
+use Rattle.gateway.specs.declared.state.Word.TheVariants.{Reply, Packet}
 use Rattle.gateway.specs.declared.state.Taken.{Taken}
 use Rattle.gateway.specs.declared.state.Taken.TheVariants.{Answer, Sure, Out, Alive}
 use Rattle.gateway.specs.Peers.{forgotten, with_waiting}
@@ -31,13 +31,13 @@ use Rattle.refinement.proofs.Sending.{sends_so}
 use Rattle.refinement.proofs.Standing.{peer_bound, stands_same}
 use Rattle.refinement.proofs.Followed.{start-stands}
 use Rattle.refinement.proofs.Followed as followed
-use Rattle.events.specs.Flow.{Flow, quiet, greet_if, hellos_below, empties_below, drains}
+use Rattle.events.specs.Flow.{Flow, quiet, hellos_below, drains}
 use Rattle.events.specs.Calls.{on_tick, posted, on_packet, heeded, on_word}
 use Rattle.conduct.specs.Queues.{packets_of}
 use Rattle.conduct.specs.Loads.{loads, left_of, drew_of, sent_of, put_of, events_of, did_by}
 use Rattle.conduct.specs.Posts.{Post, Call, Ticks, Sends, Falls, offers, first, queued_by, does, doing, hears_flow, hears, hearing, StandsPost}
 use Rattle.conduct.proofs.Going.{follows_then, AtHand, Going, gone, going_start, going_more, greet-goes}
-use Rattle.conduct.proofs.Waiting.{Same, SameFlow, stored_same, took-same, greets-same, hellos-same, empties_same}
+use Rattle.conduct.proofs.Waiting.{Same, stored_same, took-same, greets-same, hellos-same, empties_same}
 use Rattle.conduct.proofs.Rounds.{hand_all, hand_one, only, tick_goes, Draining, drains_go, drains-other}
 
 module _ (k life most : ℕ) (few : k ≤ 32) (fits : most < 2 ^ 32) (owner : ℕ → ℕ) (a : ℕ) where

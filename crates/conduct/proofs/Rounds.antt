@@ -1,10 +1,10 @@
 -- A tick with its hellos and empty ones, a packet with the hello that it causes, and a word with what waited, are what their events say. Assumes nothing.
-use Rattle.std.proofs.Common.{◌≡◌, ℕ, zero, suc, ◌+◌, ◌-◌, ◌^◌, ◌<◌, ◌≤◌, Bool, true, false, cond, not, ◌&&◌, ◌||◌, eqb, ltb, leb, ◌⊎◌, List, [], ◌∷◌, ◌++◌, length, get_or, drop, set, is_some, Some, None, Ok, Err, Option, Result, sym, refl, ap, ◌∙◌, subst, ap₂, inl, inr, ⊎_elim, append_assoc, append-nil, arith, length-drop, get_or-set_other, get_or-set_same}
+use Rattle.std.proofs.Common.{◌≡◌, ℕ, zero, suc, ◌-◌, ◌^◌, ◌<◌, ◌≤◌, Bool, true, false, cond, not, ◌||◌, eqb, ltb, List, [], ◌∷◌, ◌++◌, length, get_or, drop, Some, None, Option, sym, refl, ap, ◌∙◌, subst, append_assoc, append-nil, arith, length-drop, get_or-set_other, get_or-set_same}
 use mathlib.Core.List.Memᴰ
-use Rattle.std.proofs.lemmas.Bool.{cond_both, cond-true, cond-false, eqb-true, eqb-false, eq-eqb, ne_eqb, and_parts, and_from, ltb-true, not-true}
+use Rattle.std.proofs.lemmas.Bool.{cond_both, cond-true, cond-false, eqb-false, and_parts, ltb-true, not-true}
 use Rattle.gates.specs.Lists.{In}
 use Rattle.gates.specs.Talk.{Rules, Inner, is_in}
-use Rattle.gates.specs.World.{Gate, World, Ev, is_new, world}
+use Rattle.gates.specs.World.{Gate, World, Ev, world}
 use Rattle.gates.specs.Code.{Did, Follows, AllNew}
 use Rattle.gateway.specs.declared.state.Talk.{Talk}
 use Rattle.gateway.specs.declared.state.Peer.{Peer}
@@ -13,19 +13,19 @@ use Rattle.gateway.specs.declared.state.Word.{Word}
 use Rattle.gateway.specs.declared.state.Word.TheVariants.{Hello, Packet}
 use Rattle.gateway.specs.Peers.{with_waiting}
 use Rattle.gateway.specs.Talks.{sent_one}
-use Rattle.gateway.specs.Steps.{blank, peer_at, is_peer, storing, ticked, sending, sent_to, packet_in, is_waiting, release, release_after, released_by, greet, may_greet, due_at, ages}
+use Rattle.gateway.specs.Steps.{blank, peer_at, is_peer, ticked, sending, sent_to, packet_in, is_waiting, release, release_after, released_by, may_greet, due_at}
 use Rattle.refinement.specs.Relation.{rules_of, Stands}
 use Rattle.refinement.specs.Calls.{nothing, sent_as, put_as, as_word, puts_for, drawn_of}
 use Rattle.refinement.specs.Calls as single
 use Rattle.refinement.proofs.Asked.{ticks_so}
 use Rattle.refinement.proofs.Standing.{peer_bound}
 use Rattle.refinement.proofs.Sending.{releases_so}
-use Rattle.events.specs.Flow.{Flow, quiet, as_list, emits, next_tag, says, greet_if, hellos_below, stays, empties_in, empties_below, releases, drains}
+use Rattle.events.specs.Flow.{Flow, quiet, as_list, emits, next_tag, greet_if, hellos_below, empties_in, empties_below, drains}
 use Rattle.events.specs.Calls.{on_tick}
 use Rattle.conduct.specs.Queues.{packet_of, packets_of}
-use Rattle.conduct.specs.Loads.{Load, carried, carries, loads, left_of, drew_of, sent_of, put_of, events_of, did_by}
-use Rattle.conduct.proofs.Going.{loads_more, left_more, follows_then, AtHand, Going, gone, going_start, going_stands, going_more, going_same, greet-goes, stays-goes}
-use Rattle.conduct.proofs.Waiting.{Same, SameFlow, stored_same, greets-same}
+use Rattle.conduct.specs.Loads.{Load, carries, loads, left_of, events_of, did_by}
+use Rattle.conduct.proofs.Going.{loads_more, left_more, follows_then, AtHand, Going, gone, going_start, going_stands, going_more, greet-goes, stays-goes}
+use Rattle.conduct.proofs.Waiting.{Same, SameFlow, greets-same}
 
 -- tags that may be drawn are at hand
 in_list : (t : ℕ) (ts : List ℕ) (j : ℕ) → is_in t ts ≡ false → (t ≡ 0 → ⊥) → t ≡ get_or ts j 0 → ⊥

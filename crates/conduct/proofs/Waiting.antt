@@ -1,5 +1,5 @@
 -- How many packets wait for each gate after a step. Assumes nothing.
-use Rattle.std.proofs.Common.{◌≡◌, ℕ, zero, suc, ◌+◌, ◌-◌, ◌<◌, ◌≤◌, Bool, true, false, cond, not, ◌&&◌, eqb, ltb, ◌⊎◌, List, [], ◌∷◌, ◌++◌, length, get_or, set, Some, None, Ok, Err, Option, Result, sym, refl, ap, ◌∙◌, subst, inl, inr, ⊎_elim, arith, get_or-set_other, get_or-set_same}
+use Rattle.std.proofs.Common.{◌≡◌, ℕ, zero, suc, ◌<◌, Bool, true, false, List, length, get_or, set, Some, None, Ok, Err, Option, Result, sym, refl, ap, ◌∙◌, ⊎_elim, get_or-set_other, get_or-set_same}
 use Rattle.std.proofs.lemmas.List.{set_past}
 use Rattle.std.proofs.lemmas.Bool.{cond_both, cases_eq, cases_lt}
 use Rattle.protocol.specs.declared.refusals.Refusal.{Refusal}
@@ -10,7 +10,7 @@ use Rattle.gateway.specs.declared.state.Word.{Word}
 use Rattle.gateway.specs.declared.state.Word.TheVariants.{Hello, Reply, Packet, Empty}
 use Rattle.gateway.specs.Peers.{asked}
 use Rattle.gateway.specs.Steps.{blank, peer_at, storing, may_greet, greet_after, idle_at, stayed_by, stay_after, leaves, hello_fault, hello_peer, reply_fault, reply_peer, found_talk, packet_talk, heard_after, took_after}
-use Rattle.events.specs.Flow.{Flow, next_tag, says, greet_if, hellos_below, stays, empties_in, empties_below}
+use Rattle.events.specs.Flow.{Flow, next_tag, greet_if, hellos_below, empties_in, empties_below}
 
 -- as many wait for gate j
 abbrev pub Same : (j : ℕ) → Gateway → Gateway → Type 0

@@ -1,6 +1,6 @@
 -- What each call of a gate means, by its answer, the memory after it and the words that it puts out, in every run of the abstract protocol for whose gate the memory
 -- stands, with whatever waits beside it. Assumes nothing.
-use Rattle.std.specs.Prelude.{◌≡◌, ℕ, ◌^◌, ◌<◌, ◌≤◌, List, [], ◌∷◌, ◌++◌, take, None, Ok, Err, Result}
+use Rattle.std.specs.Prelude.{◌≡◌, ℕ, ◌^◌, ◌<◌, ◌≤◌, List, [], ◌∷◌, ◌++◌, take, Ok, Err, Result}
 use Rattle.protocol.specs.declared.refusals.Refusal.{Refusal}
 use Rattle.gates.specs.Lists.{At}
 use Rattle.gates.specs.Talk.{Inner}
@@ -17,7 +17,7 @@ use Rattle.events.specs.declared.state.PutIn.TheVariants.{Sent, Waits}
 use Rattle.refinement.specs.Relation.{rules_of}
 use Rattle.refinement.specs.Calls.{drawn_of, as_code, out_for}
 use Rattle.conduct.specs.Loads.{loads, left_of, sent_of, put_of, drew_of}
-use Rattle.conduct.specs.Posts.{Post, Call, Ticks, Sends, Falls, doing, hearing, StandsPost}
+use Rattle.conduct.specs.Posts.{Post, Ticks, Sends, Falls, doing, hearing, StandsPost}
 
 -- The words in an outbox, the earliest first.
 abbrev pub listed : Outbox → List Word

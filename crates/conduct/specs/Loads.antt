@@ -1,5 +1,5 @@
 -- The words that go out by one call, each with the packet that it carries, and what they are in the abstract protocol. Assumes nothing.
-use Rattle.std.specs.Prelude.{ℕ, ◌+◌, List, [], ◌∷◌, ◌++◌, length, drop, Some, slice_index_or}
+use Rattle.std.specs.Prelude.{ℕ, List, [], ◌∷◌, drop, Some, slice_index_or}
 use Rattle.gates.specs.Talk.{Inner}
 use Rattle.gates.specs.World.{Note, Ev, Greets, Puts, Stays}
 use Rattle.gates.specs.World.{Word as Sealed}

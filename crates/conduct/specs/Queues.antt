@@ -13,9 +13,8 @@ use Rattle.gateway.specs.declared.state.Word.TheVariants.{Hello, Reply, Packet, 
 use Rattle.gateway.specs.Steps.{fresh, is_peer, peer_at, sending, restarted}
 use Rattle.events.specs.Calls.{on_tick, on_packet, on_word}
 use Rattle.refinement.specs.Relation.{rules_of}
-use Rattle.refinement.specs.Sea.{backwards}
-use Rattle.conduct.specs.Loads.{Load, loads, left_of}
-use Rattle.conduct.specs.Posts.{Post, Sends, hears_flow, hears, does, StandsPost}
+use Rattle.conduct.specs.Loads.{Load, loads}
+use Rattle.conduct.specs.Posts.{Post, hears_flow, hears, StandsPost}
 
 -- the packet of a word that carries one
 abbrev pub packet_of : Inner → Word → List Inner

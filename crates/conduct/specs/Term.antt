@@ -1,6 +1,6 @@
 -- A gate's calls, with all that it sends by itself, as the abstract protocol asks for code: their shape, made of the definitions that the contracts cite, and that they
 -- are such code. Assumes nothing.
-use Rattle.std.specs.Prelude.{ℕ, ◌^◌, ◌<◌, ◌≤◌, List}
+use Rattle.std.specs.Prelude.{ℕ, ◌^◌, ◌<◌, ◌≤◌}
 use Rattle.gates.specs.Code.{Shape, Code, Keeps}
 use Rattle.gateway.specs.Steps.{ticked, greets}
 use Rattle.refinement.specs.Relation.{rules_of}

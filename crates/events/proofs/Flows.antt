@@ -1,13 +1,12 @@
 -- How far a step can fill an outbox, and what steps one after the other leave in it. Assumes nothing.
-use Rattle.std.proofs.Common.{◌≡◌, ℕ, zero, suc, ◌+◌, ◌-◌, ◌*◌, ◌<◌, ◌≤◌, Bool, true, false, ◌&&◌, List, [], ◌∷◌, ◌++◌, length, take, drop, is_some, Some, None, Option, sym, refl, ap, ◌∙◌, subst, append-nil, arith, length-append, length-drop}
+use Rattle.std.proofs.Common.{◌≡◌, ℕ, zero, suc, ◌+◌, ◌*◌, ◌<◌, ◌≤◌, Bool, true, false, ◌&&◌, List, [], ◌∷◌, ◌++◌, length, take, drop, is_some, Some, None, Option, sym, refl, ap, ◌∙◌, subst, append-nil, arith, length-append, length-drop}
 use Rattle.std.proofs.lemmas.List.{length-take-le}
-use Rattle.gates.specs.Timer.{Ticks, Sends}
 use Rattle.gateway.specs.declared.state.Gateway.{Gateway}
 use Rattle.gateway.specs.declared.state.Word.{Word}
-use Rattle.gateway.specs.Steps.{greet, greet_after, stay, stay_after, release, release_after, due_at, ages}
+use Rattle.gateway.specs.Steps.{greet, release, release_after}
 use Rattle.events.specs.declared.state.Outbox.{Outbox}
 use Rattle.events.specs.Outboxes.{cleared, added, Ready}
-use Rattle.events.specs.Flow.{Flow, quiet, as_list, emits, next_tag, says, greet_if, hellos_below, stays, empties_in, empties_below, releases, drains, flow_of, holding}
+use Rattle.events.specs.Flow.{Flow, quiet, as_list, emits, next_tag, greet_if, hellos_below, empties_in, empties_below, releases, drains, flow_of, holding}
 use Rattle.events.proofs.Outboxes.{itself, flow_of_lem, on_top, added_so}
 
 -- From f to g at most n words go out, and no more tags are used than words go out.

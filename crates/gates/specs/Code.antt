@@ -1,6 +1,6 @@
 -- What a gate's code must be, for the promise to hold of it: its memory, its calls, for which abstract gate a memory stands, and which events each call is.
 -- Assumes nothing.
-use Rattle.std.specs.Prelude.{◌≡◌, ℕ, zero, suc, ◌<◌, ◌≤◌, Bool, true, false, List, [], ◌∷◌, ◌++◌, length, ◌≢◌, slice_index}
+use Rattle.std.specs.Prelude.{◌≡◌, ℕ, zero, suc, ◌<◌, ◌≤◌, true, false, List, [], ◌∷◌, ◌++◌, length, ◌≢◌, slice_index}
 use Rattle.gates.specs.Lists.{At}
 use Rattle.gates.specs.Talk.{Rules, is_in}
 use Rattle.gates.specs.World.{Word, Hello, Reply, Packet, Empty, Gate, Note, World, Ev, Tick, Greets, Puts, Lies, Brings, Restarts, Drops, Stays, changed, empty_gate, is_new, world}

@@ -1,38 +1,26 @@
 -- What is asked of a gate that uses no talk (a tick, a restart, a hello) does what its events do. Assumes nothing.
-use Rattle.std.proofs.Common.{◌≡◌, ℕ, zero, suc, ◌+◌, ◌-◌, ◌%◌, ◌^◌, ◌<◌, ◌≤◌, min, Bool, true, false, cond, not, ◌&&◌, ◌||◌, eqb, ltb, leb, ◌⊎◌, List, [], ◌∷◌, ◌++◌, map, length, get_or, take, set, replicate, is_some, Some, None, Option, sym, refl, ap, ◌∙◌, subst, ap₂, inl, inr, ⊎_elim, le_refl, arith, length-set, get_or-set_other, get_or-set_same}
+use Rattle.std.proofs.Common.{◌≡◌, ℕ, zero, suc, ◌+◌, ◌-◌, ◌%◌, ◌^◌, ◌<◌, ◌≤◌, Bool, true, false, cond, not, ◌&&◌, ◌||◌, eqb, ltb, leb, List, [], ◌∷◌, ◌++◌, length, get_or, set, replicate, Some, None, Option, sym, refl, ap, ◌∙◌, subst, ap₂, ⊎_elim, le_refl, arith, length-set, get_or-set_other, get_or-set_same}
 use mathlib.Core.List.Memᴰ
 use lib.ListN.{length-map}
 use Rattle.std.proofs.lemmas.List.{get_or-map}
-use Rattle.std.proofs.lemmas.Bool.{cond_both, cond-true, cond-false, eqb-true, eqb-false, eq-eqb, ne_eqb, and_parts, and_from, ltb-true, ltb-false, lt-leb, cases_eq, not-true, not_from_false, both_ways}
-use Rattle.protocol.specs.declared.refusals.Refusal.{Refusal}
-use Rattle.protocol.specs.declared.refusals.Refusal.TheVariants.{ForeignAddress, NoRoute}
+use Rattle.std.proofs.lemmas.Bool.{cond-true, cond-false, eq-eqb, ne_eqb, and_parts, and_from, ltb-true, ltb-false, lt-leb, cases_eq, not_from_false}
 use Rattle.gates.specs.Lists.{In}
-use Rattle.gates.specs.Talk.{Rules, Inner}
-use Rattle.gates.specs.Talk as abstract
-use Rattle.gates.specs.Talk.{Talk as Session}
-use Rattle.gates.specs.World.{Gate, World, Ev, Tick, Greets, Puts, Restarts, Found, NoTalk, This, note, changed, is_new, becomes, sends, step, world, waits_for, for_sending}
-use Rattle.gates.specs.World.{Word as Sealed, Hello as HelloWord, Packet as PacketWord, Wait as Waiter, with_talks as with-sessions, change}
+use Rattle.gates.specs.Talk.{Rules}
+use Rattle.gates.specs.World.{Gate, World, Ev, Tick, Greets, Restarts, changed, is_new, becomes, world, waits_for}
+use Rattle.gates.specs.World.{Hello as HelloWord}
 use Rattle.gates.specs.Code.{Did, Follows, AllNew}
-use Rattle.gates.proofs.Lists.{Distinct}
-use Rattle.gates.proofs.Talks.{SameTag, Finds, for_sending_lem}
-use Rattle.gates.proofs.Invariant.{Inv}
-use Rattle.gates.proofs.Steps.{inv}
 use Rattle.gates.proofs.Can.{changed_here}
-use Rattle.gateway.specs.declared.state.Talk.{Talk}
 use Rattle.gateway.specs.declared.state.Wait.{Wait}
 use Rattle.gateway.specs.declared.state.Peer.{Peer}
 use Rattle.gateway.specs.declared.state.Gateway.{Gateway}
 use Rattle.gateway.specs.Slots.{first_that}
 use Rattle.gateway.specs.declared.state.Word.{Word}
-use Rattle.gateway.specs.declared.state.Word.TheVariants.{Hello, Packet}
-use Rattle.gateway.specs.Talks.{lives, may_send}
+use Rattle.gateway.specs.declared.state.Word.TheVariants.{Hello}
 use Rattle.gateway.specs.Peers.{forgotten, can_answer, is_asked, asked}
-use Rattle.gateway.specs.Talks.{sent_one}
-use Rattle.gateway.specs.Steps.{blank, peer_at, storing, is_peer, answer, leaves, put_fault, packet_in, sent_after, put, put_after, may_greet, greet, greet_after, ticked, restarted, sending}
+use Rattle.gateway.specs.Steps.{blank, peer_at, storing, is_peer, may_greet, greet, greet_after}
 use Rattle.gateway.proofs.Slots.{Fails}
-use Rattle.refinement.specs.Relation.{rules_of, with_peer, SameTalk, Vacant, Agrees, SamePeer, Stands}
-use Rattle.refinement.specs.Calls.{Call, Ticks, Says, Sends, Falls, nothing, sent_as, put_as, gone_out, drawn_as, does, doing, offers}
-use Rattle.refinement.proofs.Sessions.{FoundBoth, sending_both, found_same, peer_in}
+use Rattle.refinement.specs.Relation.{rules_of, with_peer, Vacant, Agrees, SamePeer, Stands}
+use Rattle.refinement.specs.Calls.{Ticks, Says, Falls, nothing, sent_as, drawn_as, does, doing}
 use Rattle.refinement.proofs.Asking.{any_set}
 use Rattle.refinement.proofs.Standing.{peer_bound, peer-other, stands-peer}
 

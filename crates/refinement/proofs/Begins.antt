@@ -1,5 +1,5 @@
 -- Gates that were just made are at the beginning of a run; and playing one event more. Assumes nothing.
-use Rattle.std.proofs.Common.{◌≡◌, ℕ, zero, suc, ◌+◌, ◌<◌, ◌≤◌, Bool, true, cond, ◌⊎◌, List, [], ◌∷◌, ◌++◌, length, get_or, take, sym, refl, ap, ◌∙◌, subst, inl, inr, ⊎_elim, add-one, arith, length-append}
+use Rattle.std.proofs.Common.{◌≡◌, ℕ, zero, suc, ◌+◌, ◌<◌, Bool, true, cond, List, [], ◌∷◌, ◌++◌, length, get_or, take, sym, refl, ap, ◌∙◌, subst, ⊎_elim, add-one, arith, length-append}
 use Rattle.std.proofs.lemmas.List.{take_more, get_or_default, get_or_push, get_or_append_left}
 use Rattle.std.proofs.lemmas.Bool.{cases_eq, cond-true}
 use Rattle.gates.specs.World.{empty_gate, world}
@@ -10,7 +10,7 @@ use Rattle.refinement.specs.declared.state.Event.{Event}
 use Rattle.refinement.specs.declared.state.Event.TheVariants.{Tick}
 use Rattle.refinement.specs.declared.state.Letter.{Letter}
 use Rattle.refinement.specs.Relation.{Stands}
-use Rattle.refinement.specs.Sea.{Books, no_gate, happens, plays, new_gates, backwards, words_of, puts_of, outs_of, Reached, Plays, Begun}
+use Rattle.refinement.specs.Sea.{Books, no_gate, happens, plays, new_gates, backwards, words_of, puts_of, outs_of, Plays, Begun}
 use Rattle.refinement.proofs.Followed.{start-stands}
 use Rattle.refinement.proofs.Playing.{all-plays}
 

@@ -1,21 +1,17 @@
 -- Any word that is brought does what its delivery does; and a gate that was just made. Assumes nothing.
-use Rattle.std.proofs.Common.{◌≡◌, ℕ, ◌%◌, ◌^◌, ◌<◌, ◌≤◌, List, [], ◌∷◌, ◌++◌, length, get_or, replicate, Some, None, Option, Result, sym, refl, ap, ◌∙◌, subst, arith}
+use Rattle.std.proofs.Common.{ℕ, ◌≤◌, List, ◌++◌, sym, refl, subst, arith}
 use Rattle.std.proofs.lemmas.List.{get_or-replicate}
-use Rattle.protocol.specs.declared.refusals.Refusal.{Refusal}
 use Rattle.gates.specs.Lists.{At}
-use Rattle.gates.specs.Talk.{Inner, Rules}
-use Rattle.gates.specs.World.{Ev, Puts, Brings, empty_gate, waits_for, world}
+use Rattle.gates.specs.World.{Ev, empty_gate, waits_for, world}
 use Rattle.gates.specs.World.{Word as Sealed, Hello as HelloWord, Reply as ReplyWord, Packet as PacketWord, Empty as EmptyWord}
-use Rattle.gates.specs.Promise.{GreetsBelow, by_of}
-use Rattle.gates.specs.Code.{Did, Follows, AllNew}
+use Rattle.gates.specs.Promise.{GreetsBelow}
+use Rattle.gates.specs.Code.{Follows, AllNew}
 use Rattle.gateway.specs.declared.state.Gateway.{Gateway}
-use Rattle.gateway.specs.declared.state.Word.{Word}
-use Rattle.gateway.specs.declared.state.Taken.{Taken}
 use Rattle.gateway.specs.Slots.{first_that}
 use Rattle.gateway.specs.Peers.{unknown}
-use Rattle.gateway.specs.Steps.{blank, fresh, is_peer, peer_at, took, took_after, put, put_after, greet, greet_after, ticked, restarted}
+use Rattle.gateway.specs.Steps.{blank, fresh}
 use Rattle.refinement.specs.Relation.{rules_of, with_peer, Vacant, Agrees, SamePeer, Stands}
-use Rattle.refinement.specs.Calls.{Ticks, Says, Sends, Falls, drawn_of, as_code, sent_for, drew_for, out_for, hears, hearing, sent_as, put_as, gone_out, drawn_as, does, doing}
+use Rattle.refinement.specs.Calls.{hears, hearing}
 use Rattle.refinement.proofs.Standing.{peer_bound}
 use Rattle.refinement.proofs.Asked.{empty-place}
 use Rattle.refinement.proofs.Taking.{hello_so, reply_so, packet_so, empty_so}

@@ -1,33 +1,25 @@
 -- It always can, over the code: a hello of a new tick and its reply give two gates a talk, and what is then put in comes out. Assumes nothing.
-use Rattle.std.proofs.Common.{◌≡◌, ℕ, zero, suc, ◌+◌, ◌-◌, ◌%◌, ◌^◌, ◌<◌, ◌≤◌, min, Bool, true, false, cond, not, ◌&&◌, ◌||◌, eqb, ltb, leb, List, [], ◌∷◌, ◌++◌, length, get_or, take, set, is_some, Some, None, Ok, Err, Option, Result, sym, refl, ap, ◌∙◌, subst, ap₂, append-nil, le_of_suc-le-suc, arith, length-append, length-set, get_or-set_other, get_or-set_same}
+use Rattle.std.proofs.Common.{◌≡◌, ℕ, zero, suc, ◌+◌, ◌-◌, ◌%◌, ◌^◌, ◌<◌, ◌≤◌, Bool, true, false, cond, not, ◌&&◌, ◌||◌, eqb, ltb, leb, List, [], ◌∷◌, ◌++◌, length, get_or, take, set, is_some, Some, None, Ok, Option, sym, refl, ap, ◌∙◌, subst, ap₂, append-nil, le_of_suc-le-suc, arith, length-append, length-set, get_or-set_other, get_or-set_same}
 use Rattle.std.proofs.lemmas.List.{get_or_push}
-use Rattle.std.proofs.lemmas.Bool.{cond-true, cond-false, eqb-true, eqb-false, eq-eqb, ne_eqb, and_parts, and_from, or_from, lt-ltb, le-leb, lt-leb, not_from_false}
-use Rattle.protocol.specs.declared.refusals.Refusal.{Refusal}
-use Rattle.gates.specs.World.{Ev, world}
+use Rattle.std.proofs.lemmas.Bool.{cond-true, cond-false, eq-eqb, ne_eqb, and_from, or_from, lt-ltb, le-leb, lt-leb, not_from_false}
+use Rattle.gates.specs.World.{world}
 use Rattle.gates.proofs.Steps.{inv}
-use Rattle.window.specs.Heard.{look_bits, empty_window}
-use Rattle.window.specs.declared.state.Verdict.TheVariants.{Fresh}
-use Rattle.gateway.specs.declared.state.Talk.{Talk}
-use Rattle.gateway.specs.declared.state.Wait.{Wait}
 use Rattle.gateway.specs.declared.state.Peer.{Peer}
 use Rattle.gateway.specs.declared.state.Gateway.{Gateway}
-use Rattle.gateway.specs.declared.state.Word.{Word}
-use Rattle.gateway.specs.declared.state.Word.TheVariants.{Hello, Reply, Packet, Empty}
-use Rattle.gateway.specs.declared.state.Taken.{Taken}
-use Rattle.gateway.specs.declared.state.Taken.TheVariants.{Answer, Sure, Out, Alive}
+use Rattle.gateway.specs.declared.state.Word.TheVariants.{Hello, Reply, Packet}
+use Rattle.gateway.specs.declared.state.Taken.TheVariants.{Answer, Sure, Out}
 use Rattle.gateway.specs.Slots.{first_that}
 use Rattle.gateway.specs.Talks.{fresh_talk, lives, may_send, names}
 use Rattle.gateway.specs.Peers.{can_answer, asked}
-use Rattle.gateway.specs.Steps.{blank, peer_at, storing, is_peer, answer, leaves, hello_fault, hello_peer, reply_fault, reply_peer, by_verdict, found_in, found_talk, if_owned, packet_talk, took, took_after, room_fault, put_fault, packet_in, sending, put, put_after, sent_after, may_greet, greet, greet_after, ticked}
+use Rattle.gateway.specs.Steps.{blank, peer_at, storing, is_peer, answer, leaves, hello_fault, hello_peer, reply_fault, reply_peer, found_in, found_talk, if_owned, took, took_after, room_fault, put_fault, packet_in, sending, put, put_after, may_greet, greet, greet_after, ticked}
 use Rattle.gateway.specs.Steps.{taken as answered-as}
-use Rattle.refinement.specs.declared.state.Parcel.{Parcel}
 use Rattle.refinement.specs.declared.state.Letter.{Letter}
 use Rattle.refinement.specs.declared.state.Event.{Event}
 use Rattle.refinement.specs.declared.state.Event.TheVariants.{Tick, Greet, Put, Bring}
 use Rattle.refinement.specs.declared.state.Outcome.{Outcome}
 use Rattle.refinement.specs.Relation.{rules_of, SamePeer, Stands}
 use Rattle.refinement.specs.Calls.{as_code, gone_out}
-use Rattle.refinement.specs.Sea.{owner_in, nobody, sealed_of, Books, letter_of, silent, brought_out, list_of, no_gate, no_letter, entered, gate_of, letter_in, is_there, after_of, outcome_of, happens, plays, Reached, CanOpen}
+use Rattle.refinement.specs.Sea.{owner_in, nobody, sealed_of, Books, letter_of, silent, brought_out, list_of, no_gate, no_letter, entered, gate_of, letter_in, is_there, after_of, outcome_of, happens, plays, CanOpen}
 use Rattle.refinement.proofs.Standing.{peer_bound}
 
 -- what was just put in a place passes

@@ -1,23 +1,23 @@
 -- Many gates and a net: whatever happens is a run of the abstract protocol, and so the promise holds. Assumes nothing.
-use Rattle.std.proofs.Common.{◌≡◌, ℕ, zero, suc, ◌+◌, ◌-◌, ◌^◌, ◌<◌, ◌≤◌, Bool, true, false, cond, not, ◌&&◌, ◌||◌, eqb, ltb, leb, ◌⊎◌, List, [], ◌∷◌, ◌++◌, length, get_or, set, Some, None, Ok, Err, Option, Result, sym, refl, ap, ◌∙◌, subst, ap₂, inl, inr, ⊎_elim, append_assoc, append-nil, le_of_suc-le-suc, arith, length-set, get_or-set_other, get_or-set_same}
+use Rattle.std.proofs.Common.{◌≡◌, ℕ, zero, suc, ◌-◌, ◌^◌, ◌<◌, ◌≤◌, Bool, true, false, cond, not, ◌&&◌, ◌||◌, eqb, ltb, leb, ◌⊎◌, List, [], ◌∷◌, ◌++◌, length, get_or, set, Some, None, Ok, Err, Option, Result, sym, refl, ap, ◌∙◌, subst, ap₂, inl, inr, ⊎_elim, append_assoc, append-nil, le_of_suc-le-suc, arith, length-set, get_or-set_other, get_or-set_same}
 use mathlib.Core.List.Memᴰ
-use Rattle.std.proofs.lemmas.Bool.{cond-true, cond-false, eqb-true, eqb-false, ne_eqb, and_parts, and_from, not-true, not_from_false, or_parts, or_from, ltb-true, ltb-false, lt-ltb, cases_eq}
+use Rattle.std.proofs.lemmas.Bool.{cond-true, eqb-true, eqb-false, ne_eqb, and_parts, and_from, not-true, not_from_false, or_parts, or_from, ltb-true, ltb-false, lt-ltb, cases_eq}
 use Rattle.protocol.specs.declared.refusals.Refusal.{Refusal}
 use Rattle.gates.specs.Lists.{In, At}
-use Rattle.gates.specs.Talk.{Inner, Rules, is_in}
+use Rattle.gates.specs.Talk.{Rules, is_in}
 use Rattle.gates.specs.World.{Note, World, Ev, Brings, Puts, Drops, is_new, world}
 use Rattle.gates.specs.World.{Word as Sealed, Hello as HelloWord, Reply as ReplyWord, Packet as PacketWord, Empty as EmptyWord}
 use Rattle.gates.specs.World as worlds
-use Rattle.gates.specs.Promise.{Whole, GreetsBelow, lied, note_of, by_of, for_of}
+use Rattle.gates.specs.Promise.{note_of, by_of, for_of}
 use Rattle.gates.specs.Code.{Did, Follows, AllNew, OfGate, AllOfGate}
-use Rattle.gates.proofs.Lists.{in-at, at_in}
-use Rattle.gates.proofs.Refines.{Untouched, run_there, run-honest, run-below}
+use Rattle.gates.proofs.Lists.{in-at}
+use Rattle.gates.proofs.Refines.{run_there, run-honest, run-below}
 use Rattle.gates.proofs.Whole.{main}
 use Rattle.gateway.specs.declared.state.Talk.{Talk}
 use Rattle.gateway.specs.declared.state.Peer.{Peer}
 use Rattle.gateway.specs.declared.state.Gateway.{Gateway}
 use Rattle.gateway.specs.declared.state.Word.{Word}
-use Rattle.gateway.specs.declared.state.Word.TheVariants.{Hello, Reply, Packet, Empty}
+use Rattle.gateway.specs.declared.state.Word.TheVariants.{Reply}
 use Rattle.gateway.specs.declared.state.Taken.{Taken}
 use Rattle.gateway.specs.declared.state.Taken.TheVariants.{Answer, Sure, Out, Alive}
 use Rattle.gateway.specs.Steps.{is_peer, peer_at, may_greet, answer, hello_fault, reply_fault, found_talk, packet_talk, took, took_after, put, put_after, greet, greet_after, ticked, restarted}
@@ -28,7 +28,7 @@ use Rattle.refinement.specs.declared.state.Event.{Event}
 use Rattle.refinement.specs.declared.state.Event.TheVariants.{Tick, Restart, Greet, Put, Bring}
 use Rattle.refinement.specs.declared.state.Outcome.{Outcome}
 use Rattle.refinement.specs.Relation.{rules_of, Stands}
-use Rattle.refinement.specs.Calls.{Call, Ticks, Says, Sends, Falls, offers, as_code, as_word, drawn_of, hears, hearing, does, doing, gone_out, sent_as, put_as, drawn_as, nothing, sent_for, out_for, drew_for, drops_oldest, drops_for}
+use Rattle.refinement.specs.Calls.{Call, Ticks, Says, Sends, Falls, offers, as_code, drawn_of, hearing, does, doing, gone_out, sent_as, put_as, drawn_as, nothing, sent_for, out_for, drew_for, drops_oldest, drops_for}
 use Rattle.refinement.specs.Sea.{owner_in, inner_of, nobody, sealed_of, Books, letter_of, silent, brought_out, list_of, no_gate, entered, no_letter, gate_of, letter_in, is_there, after_of, outcome_of, happens, plays, tag_of, tags_of, backwards, words_of, puts_of, outs_of, Reached, Kept, Plays}
 use Rattle.refinement.proofs.Asked.{ticks_so, falls_so, says_so}
 use Rattle.refinement.proofs.Sending.{sends_so}

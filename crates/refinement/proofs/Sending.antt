@@ -1,5 +1,5 @@
 -- What a gate puts in a talk (a packet that is put in, one that waited, an empty one) does what its events do. Assumes nothing.
-use Rattle.std.proofs.Common.{◌≡◌, ℕ, zero, suc, ◌+◌, ◌-◌, ◌^◌, ◌<◌, ◌≤◌, min, Bool, true, false, cond, not, ◌&&◌, ◌||◌, eqb, ltb, leb, ◌⊎◌, List, [], ◌∷◌, ◌++◌, length, get_or, Some, None, Option, sym, refl, ap, ◌∙◌, subst, ap₂, inl, inr, ⊎_elim, arith}
+use Rattle.std.proofs.Common.{◌≡◌, ℕ, zero, suc, ◌+◌, ◌-◌, ◌^◌, ◌<◌, Bool, true, false, cond, not, ◌&&◌, eqb, ltb, ◌⊎◌, List, [], ◌∷◌, ◌++◌, get_or, Some, None, Option, sym, refl, ap, ◌∙◌, subst, ap₂, inl, inr, arith}
 use mathlib.Core.List.Memᴰ
 use Rattle.std.proofs.lemmas.Bool.{cond_both, cond-true, cond-false, eqb-true, eqb-false, eq-eqb, ne_eqb, and_parts, and_from, ltb-true, not_from_false, both_ways}
 use Rattle.protocol.specs.declared.refusals.Refusal.{Refusal}
@@ -9,12 +9,11 @@ use Rattle.gates.specs.Lists.{In}
 use Rattle.gates.specs.Talk.{Rules, Inner}
 use Rattle.gates.specs.Talk as abstract
 use Rattle.gates.specs.Talk.{Talk as Session}
-use Rattle.gates.specs.World.{Gate, World, Ev, Puts, Stays, Found, NoTalk, This, note, changed, emits, sends, stays, step, world, for_sending, by_mine}
-use Rattle.gates.specs.World.{Word as Sealed, Packet as PacketWord, Empty as EmptyWord, with_talks as with-sessions, change}
+use Rattle.gates.specs.World.{Gate, World, Ev, Puts, Found, NoTalk, This, note, emits, sends, stays, step, world, for_sending, by_mine}
+use Rattle.gates.specs.World.{Packet as PacketWord, Empty as EmptyWord, with_talks as with-sessions, change}
 use Rattle.gates.specs.Code.{Did, Follows}
 use Rattle.gates.proofs.Lists.{Distinct}
 use Rattle.gates.proofs.Talks.{SameTag, Finds, for_sending_lem}
-use Rattle.gates.proofs.Invariant.{Inv}
 use Rattle.gates.proofs.Steps.{inv}
 use Rattle.gates.proofs.Can.{changed_here}
 use Rattle.gateway.specs.declared.state.Talk.{Talk}

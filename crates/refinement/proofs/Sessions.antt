@@ -1,5 +1,5 @@
 -- Places in memory that agree with an abstract gate's talks: what is found in both, and that they go on agreeing. Assumes nothing.
-use Rattle.std.proofs.Common.{◌≡◌, ℕ, zero, suc, ◌+◌, ◌<◌, ◌≤◌, Bool, true, false, cond, not, ◌&&◌, ◌||◌, eqb, ltb, leb, ◌⊎◌, List, [], ◌∷◌, ◌++◌, length, get_or, take, is_ok, Some, None, Ok, Err, Option, Result, sym, refl, ap, ◌∙◌, subst, inl, inr, ⊎_elim, arith}
+use Rattle.std.proofs.Common.{◌≡◌, ℕ, Bool, true, false, cond, ◌&&◌, eqb, ◌⊎◌, List, [], ◌∷◌, length, get_or, take, is_ok, Some, None, Option, sym, refl, ap, ◌∙◌, subst, inl, inr, ⊎_elim, arith}
 use mathlib.Core.List.Memᴰ
 use Rattle.std.proofs.lemmas.Bool.{cond-true, cond-false, eqb-true, eqb-false, eq-eqb, ne_eqb}
 use Rattle.gates.specs.Lists.{In}
@@ -10,11 +10,10 @@ use Rattle.gates.specs.World.{Found, NoTalk, This, is_talk, comes_in, change, wi
 use Rattle.gates.specs.World as worlds
 use Rattle.gates.proofs.Lists.{Distinct}
 use Rattle.gates.proofs.Talks.{SameTag}
-use Rattle.window.specs.Heard.{span, look_bits, is_fresh, verdict_of}
+use Rattle.window.specs.Heard.{look_bits, is_fresh, verdict_of}
 use Rattle.window.specs.declared.state.Verdict.{Verdict}
 use Rattle.window.specs.declared.state.Verdict.TheVariants.{Fresh, TooOld, Came}
 use Rattle.window.proofs.Heard.{look-stands, as_in_talks}
-use Rattle.protocol.specs.declared.refusals.Refusal.{Refusal}
 use Rattle.gateway.specs.declared.state.Talk.{Talk}
 use Rattle.gateway.specs.Slots.{first_that, replaced}
 use Rattle.gateway.specs.Talks.{lives, may_send, names}

@@ -1,15 +1,13 @@
 -- A memory goes on standing for its gate when one peer's part of both changes. Assumes nothing.
-use Rattle.std.proofs.Common.{◌≡◌, ℕ, zero, suc, ◌+◌, ◌-◌, ◌%◌, ◌^◌, ◌<◌, ◌≤◌, min, Bool, true, false, cond, not, ◌&&◌, ◌||◌, eqb, ltb, leb, ◌⊎◌, List, [], ◌∷◌, ◌++◌, length, get_or, take, set, is_some, Some, None, Option, sym, refl, ap, ◌∙◌, subst, inl, inr, ⊎_elim, arith, length-set, length-take, get_or-set_other, get_or-set_same}
+use Rattle.std.proofs.Common.{◌≡◌, ℕ, zero, suc, ◌%◌, ◌<◌, ◌≤◌, Bool, true, false, cond, not, ◌&&◌, eqb, ltb, List, [], ◌∷◌, length, get_or, take, set, is_some, Some, None, Option, sym, refl, ap, ◌∙◌, subst, ⊎_elim, arith, length-set, length-take, get_or-set_other, get_or-set_same}
 use mathlib.Core.List.Memᴰ
-use Rattle.std.proofs.lemmas.Bool.{cond-true, cond-false, eqb-true, eqb-false, eq-eqb, ne_eqb, and_parts, ltb-true, cases_eq, not-true}
+use Rattle.std.proofs.lemmas.Bool.{cond-true, cond-false, eqb-false, eq-eqb, ne_eqb, and_parts, ltb-true, cases_eq, not-true}
 use Rattle.gates.specs.Lists.{In}
-use Rattle.gates.specs.Talk.{Rules}
-use Rattle.gates.specs.Talk as abstract
 use Rattle.gates.specs.Talk.{Talk as Session, new_talk}
 use Rattle.gates.specs.World.{Gate, change, without_talk, waits_for}
 use Rattle.gates.specs.World.{Wait as Waiter, with_talks as with-sessions}
 use Rattle.gates.proofs.Lists.{Distinct}
-use Rattle.gates.proofs.Talks.{SameTag, change-from, without_talk_lem}
+use Rattle.gates.proofs.Talks.{SameTag, without_talk_lem}
 use Rattle.window.proofs.Heard.{empty_stands}
 use Rattle.gateway.specs.declared.state.Talk.{Talk}
 use Rattle.gateway.specs.declared.state.Wait.{Wait}
@@ -17,10 +15,10 @@ use Rattle.gateway.specs.declared.state.Peer.{Peer}
 use Rattle.gateway.specs.declared.state.Gateway.{Gateway}
 use Rattle.gateway.specs.Slots.{first_that, replaced}
 use Rattle.gateway.specs.Talks.{fresh_talk}
-use Rattle.gateway.specs.Peers.{is_asked, can_answer, stored, same_tag, with_talks}
+use Rattle.gateway.specs.Peers.{is_asked, can_answer, same_tag}
 use Rattle.gateway.specs.Steps.{blank, peer_at, storing, is_peer}
 use Rattle.refinement.specs.Relation.{with_peer, SameTalk, Vacant, Agrees, SamePeer, Stands}
-use Rattle.refinement.proofs.Sessions.{found_same, peer_in, in-peer, distinct_peer, change_absent, change-peer, agrees_store, without_peer, without_absent, agrees_two, agrees_drop}
+use Rattle.refinement.proofs.Sessions.{found_same, peer_in, distinct_peer, change_absent, change-peer, agrees_store, without_peer, without_absent, agrees_two, agrees_drop}
 
 pub peer_bound : (e : ℕ) (s : Gateway) → is_peer e s ≡ true → e < 32
 peer_bound e s h =

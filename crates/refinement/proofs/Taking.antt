@@ -1,24 +1,24 @@
 -- A word that is brought to a gate does what its delivery does, after a drop where three talks were had. Assumes nothing.
-use Rattle.std.proofs.Common.{◌≡◌, ℕ, zero, suc, ◌+◌, ◌-◌, ◌%◌, ◌^◌, ◌<◌, ◌≤◌, Bool, true, false, cond, not, ◌&&◌, ◌||◌, eqb, ltb, leb, ◌⊎◌, List, [], ◌∷◌, ◌++◌, map, length, get_or, take, is_ok, Some, None, Ok, Err, Option, Result, sym, refl, ap, ◌∙◌, subst, ap₂, inl, inr, ⊎_elim, le_refl, arith}
+use Rattle.std.proofs.Common.{◌≡◌, ℕ, zero, suc, ◌<◌, ◌≤◌, Bool, true, false, cond, not, ◌&&◌, ◌||◌, eqb, ltb, leb, List, [], ◌∷◌, ◌++◌, map, get_or, take, is_ok, Some, None, Ok, Err, Option, Result, sym, refl, ap, ◌∙◌, subst, ap₂, le_refl, arith}
 use lib.ListN.{length-map}
-use Rattle.std.proofs.lemmas.Bool.{cond-true, cond-false, eqb-true, eqb-false, eq-eqb, ne_eqb, and_parts, and_from, or_parts, or_from, ltb-true, lt-ltb, leb-false, lt-leb, cases_eq, not-true, not_from_false, both_ways}
+use Rattle.std.proofs.lemmas.Bool.{cond-true, cond-false, eqb-true, eq-eqb, ne_eqb, and_parts, and_from, or_from, ltb-true, lt-ltb, leb-false, lt-leb, not-true, not_from_false}
 use Rattle.protocol.specs.declared.refusals.Refusal.{Refusal}
-use Rattle.protocol.specs.declared.refusals.Refusal.TheVariants.{WrongGate, ZeroTag, OldHello, UnaskedReply, NoTalk, BelowWindow, RepeatedNumber, ForeignAddress, NoDrawnBytes}
+use Rattle.protocol.specs.declared.refusals.Refusal.TheVariants.{WrongGate, ZeroTag, OldHello, UnaskedReply, NoTalk, ForeignAddress, NoDrawnBytes}
 use Rattle.gates.specs.Lists.{In, At}
 use Rattle.gates.specs.Talk.{Rules, Inner, is_in, new_talk, came}
 use Rattle.gates.specs.Talk.{Talk as Session}
-use Rattle.gates.specs.World.{Gate, World, Ev, Brings, Drops, changed, is_new, becomes, hears, note, takes, taken, brings, brings_nth, step, world, waits_for, without_wait, comes_in, change}
-use Rattle.gates.specs.World.{Word as Sealed, Hello as HelloWord, Reply as ReplyWord, Packet as PacketWord, Empty as EmptyWord, Wait as Waiter, with_talks as with-sessions}
+use Rattle.gates.specs.World.{Gate, World, Ev, Brings, changed, is_new, takes, taken, world, waits_for, without_wait, comes_in, change}
+use Rattle.gates.specs.World.{Word as Sealed, Hello as HelloWord, Reply as ReplyWord, Packet as PacketWord, Empty as EmptyWord, with_talks as with-sessions}
 use Rattle.gates.specs.Promise.{by_of, for_of, GreetsBelow}
 use Rattle.gates.specs.Code.{Did, Follows, AllNew}
 use Rattle.gates.proofs.Lists.{at_in}
 use Rattle.gates.proofs.Talks.{waits_for_lem}
-use Rattle.gates.proofs.Invariant.{Inv, one-draw}
+use Rattle.gates.proofs.Invariant.{one-draw}
 use Rattle.gates.proofs.Steps.{inv}
 use Rattle.gates.proofs.Origins.{proper}
 use Rattle.gates.proofs.Nets.{brings-at}
 use Rattle.gates.proofs.Can.{changed_here, changed_there}
-use Rattle.window.specs.Heard.{look_bits, verdict_of}
+use Rattle.window.specs.Heard.{look_bits}
 use Rattle.window.specs.declared.state.Verdict.{Verdict}
 use Rattle.window.specs.declared.state.Verdict.TheVariants.{Fresh, TooOld, Came}
 use Rattle.window.proofs.Heard.{look-stands, after-stands}
@@ -26,16 +26,15 @@ use Rattle.gateway.specs.declared.state.Talk.{Talk}
 use Rattle.gateway.specs.declared.state.Wait.{Wait}
 use Rattle.gateway.specs.declared.state.Peer.{Peer}
 use Rattle.gateway.specs.declared.state.Gateway.{Gateway}
-use Rattle.gateway.specs.declared.state.Word.{Word}
 use Rattle.gateway.specs.declared.state.Word.TheVariants.{Reply}
 use Rattle.gateway.specs.declared.state.Taken.{Taken}
 use Rattle.gateway.specs.declared.state.Taken.TheVariants.{Answer, Sure, Out, Alive}
 use Rattle.gateway.specs.Slots.{first_that, emptied}
 use Rattle.gateway.specs.Talks.{fresh_talk, lives, names, heard_one}
-use Rattle.gateway.specs.Peers.{can_answer, has_tag, is_asked, answered, stored, heard_now}
+use Rattle.gateway.specs.Peers.{has_tag, is_asked, stored, heard_now}
 use Rattle.gateway.specs.Steps.{peer_at, storing, is_peer, answer, leaves, hello_fault, hello_peer, reply_fault, reply_peer, by_verdict, found_in, found_talk, if_owned, packet_talk, heard_after}
 use Rattle.gateway.specs.Steps.{taken as answered-as}
-use Rattle.refinement.specs.Relation.{rules_of, with_peer, SameTalk, Agrees, SamePeer, Stands}
+use Rattle.refinement.specs.Relation.{rules_of, with_peer, SameTalk, SamePeer, Stands}
 use Rattle.refinement.specs.Calls.{drawn_of, sent_for, drew_for, out_for, drops_oldest, drops_for}
 use Rattle.refinement.specs.Calls as calls
 use Rattle.refinement.proofs.Sessions.{comes_both, found_same}

@@ -1,6 +1,6 @@
 -- Which events of the abstract protocol each call of a gate's code is, and what it adds to the net, to what was put in and came out, and to the drawn tags.
 -- Assumes nothing.
-use Rattle.std.specs.Prelude.{ℕ, ◌-◌, ◌^◌, Bool, cond, List, [], ◌∷◌, ◌++◌, Some, None, Ok, Err, Option, Result, nat_lt, slice_index_or}
+use Rattle.std.specs.Prelude.{ℕ, ◌-◌, ◌^◌, cond, List, [], ◌∷◌, Some, None, Ok, Err, Option, Result, nat_lt, slice_index_or}
 use Rattle.protocol.specs.declared.refusals.Refusal.{Refusal}
 use Rattle.gates.specs.Talk.{Inner}
 use Rattle.gates.specs.World.{Note, Ev, Tick, Greets, Puts, Brings, Restarts, Drops, Stays, note}

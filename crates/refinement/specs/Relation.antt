@@ -1,6 +1,6 @@
 -- For which gate of the abstract protocol a gate's memory stands. A relation: the memory forgets what can no longer matter, and its window says less than the
 -- list of all that came. Assumes nothing.
-use Rattle.std.specs.Prelude.{◌≡◌, ℕ, ◌%◌, ◌^◌, ◌<◌, ◌≤◌, Bool, true, cond, List, [], ◌∷◌, length, Some, None, Option, ◌==◌, slice_index_or}
+use Rattle.std.specs.Prelude.{◌≡◌, ℕ, ◌%◌, ◌^◌, ◌<◌, ◌≤◌, true, cond, List, [], ◌∷◌, length, Some, None, Option, ◌==◌, slice_index_or}
 use Rattle.gates.specs.Lists.{In}
 use Rattle.gates.specs.Talk.{Rules}
 use Rattle.gates.specs.Talk.{Talk as Session}

@@ -1,5 +1,5 @@
 -- What no step of a gate changes but a tick and a restart: who it is, its clock, and how many peers it has memory for. Assumes nothing.
-use Rattle.std.proofs.Common.{◌≡◌, ℕ, zero, suc, ◌<◌, Bool, true, false, cond, List, [], ◌∷◌, length, Some, None, Ok, Err, Option, Result, sym, refl, ap, ◌∙◌, arith, length-set}
+use Rattle.std.proofs.Common.{◌≡◌, ℕ, zero, suc, Bool, true, false, cond, List, length, Some, None, Ok, Err, Option, Result, refl, ◌∙◌, length-set}
 use Rattle.protocol.specs.declared.refusals.Refusal.{Refusal}
 use Rattle.gateway.specs.declared.state.Talk.{Talk}
 use Rattle.gateway.specs.declared.state.Peer.{Peer}
@@ -9,7 +9,7 @@ use Rattle.gateway.specs.declared.state.Word.TheVariants.{Hello, Reply, Packet, 
 use Rattle.gateway.specs.Peers.{asked, stored, heard_now}
 use Rattle.gateway.specs.Talks.{heard_one}
 use Rattle.gateway.specs.Steps.{is_peer, peer_at, storing, leaves, heard_after, hello_fault, hello_peer, reply_fault, reply_peer, packet_talk, found_talk, took_after, sent_after, put_fault, put_after, sending, is_waiting, released_by, release_after, idle_at, stayed_by, stay_after, may_greet, greet_after}
-use Rattle.events.specs.Flow.{Flow, greet_if, next_tag, stays, hellos_below, empties_in, empties_below, releases, drains}
+use Rattle.events.specs.Flow.{Flow, greet_if, next_tag, hellos_below, empties_in, empties_below, releases, drains}
 
 pub record Alike (s v : Gateway) : Type 0 where
   pub own_so : v.own ≡ s.own

@@ -1,21 +1,18 @@
 -- What goes out when a word is taken, for the timer of its maker: the taking, and a sending for each packet that waited. Assumes nothing.
-use Rattle.std.proofs.Common.{◌≡◌, ℕ, zero, suc, ◌+◌, ◌-◌, ◌<◌, ◌≤◌, Bool, true, false, cond, not, ◌&&◌, ◌||◌, eqb, ltb, leb, ◌⊎◌, List, [], ◌∷◌, ◌++◌, length, get_or, is_some, Some, None, Option, sym, refl, ap, ◌∙◌, subst, inl, inr, ⊎_elim, append_assoc, arith}
-use Rattle.std.proofs.lemmas.Bool.{ltb-true, true≢false, and_parts}
-use Rattle.std.proofs.lemmas.Bool.Decides.{nat_tests}
-use Rattle.protocol.specs.Limits.{queue_limit}
-use Rattle.gates.specs.Timer.{Timer, Deed, Ticks, Sends, Queues, Takes, Restarts, Did, Then, after, after_hello, due, timer_of, due_after, Obeys, Exact}
+use Rattle.std.proofs.Common.{◌≡◌, ℕ, zero, suc, ◌+◌, ◌<◌, ◌≤◌, Bool, true, false, cond, ◌&&◌, ◌⊎◌, List, [], ◌∷◌, ◌++◌, length, get_or, is_some, Some, None, sym, refl, ap, ◌∙◌, subst, inl, inr, ⊎_elim, arith}
+use Rattle.std.proofs.lemmas.Bool.{ltb-true}
+use Rattle.gates.specs.Timer.{Timer, Sends, Did, Then, after, after_hello, due, timer_of, Obeys, Exact}
 use Rattle.gateway.specs.declared.state.Peer.{Peer}
 use Rattle.gateway.specs.declared.state.Gateway.{Gateway}
 use Rattle.gateway.specs.declared.state.Word.{Word}
 use Rattle.gateway.specs.declared.state.Word.TheVariants.{Hello}
 use Rattle.gateway.specs.Peers.{asked}
-use Rattle.gateway.specs.Steps.{is_peer, peer_at, storing, timer, due_at, ages, may_greet, greet, greet_after, release, release_after}
-use Rattle.events.specs.Flow.{Flow, quiet, as_list, emits, next_tag, says, greet_if, releases, drains}
-use Rattle.timing.specs.Runs.{said, did_release, did_drain, emptied, did_hear}
-use Rattle.timing.proofs.Alike.{Alike, alike_on, alike_release, alike_greet_if, alike_drains, alike_peer}
+use Rattle.gateway.specs.Steps.{is_peer, peer_at, storing, timer, due_at, ages, may_greet, release, release_after}
+use Rattle.events.specs.Flow.{Flow, as_list, emits, next_tag, greet_if, releases, drains}
+use Rattle.timing.specs.Runs.{said, did_release, did_drain}
+use Rattle.timing.proofs.Alike.{Alike, alike_release, alike_greet_if, alike_peer}
 use Rattle.timing.proofs.Timers.{at_it, greet_if_it, greet_if_other, said-due, due-said, due-above}
-use Rattle.timing.proofs.Histories.{exact_on, obeys_on}
-use Rattle.timing.proofs.Takings.{Like, like, Went, release-timer, release-fewer, release_other}
+use Rattle.timing.proofs.Takings.{Like, Went, release-timer, release-fewer, release_other}
 
 like_sends : (a b : Bool) (t u : Timer) → Like t u → Like (after (Sends a) t) (after (Sends b) u)
 like_sends a b t u l = record { now_so = l.now_so; heard_so = l.heard_so; greeted_so = l.greeted_so; fell_so = l.fell_so; unanswered_so = refl }

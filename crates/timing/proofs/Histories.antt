@@ -1,6 +1,6 @@
 -- Deeds on top of deeds: what is exact, and what obeys, piece by piece. Assumes nothing.
-use Rattle.std.proofs.Common.{◌≡◌, Bool, true, List, [], ◌∷◌, ◌++◌, sym, refl, ap, ◌∙◌, subst, append_assoc}
-use Rattle.gates.specs.Timer.{Deed, Did, Then, timer_of, due_after, Obeys, Exact}
+use Rattle.std.proofs.Common.{List, [], ◌∷◌, ◌++◌, sym, ap, ◌∙◌, append_assoc}
+use Rattle.gates.specs.Timer.{Did, Then, due_after, Obeys, Exact}
 
 pub exact_on : (before ys xs : List Did) → Exact (ys ++ before) xs → Exact before ys → Exact before (xs ++ ys)
 unfolding Exact

@@ -1,24 +1,22 @@
 -- That all that waits goes out when a reply comes, and that there is room for one more. Assumes nothing.
-use Rattle.std.proofs.Common.{◌≡◌, ℕ, zero, suc, ◌+◌, ◌-◌, ◌^◌, ◌<◌, ◌≤◌, min, Bool, true, false, cond, not, ◌&&◌, eqb, ltb, leb, List, [], ◌∷◌, ◌++◌, length, take, is_some, Some, None, Ok, Err, Option, Result, sym, refl, ap, ◌∙◌, subst, arith}
-use Rattle.std.proofs.lemmas.Bool.{cond-true, cond-false, eq-eqb, and_from, and_parts, ltb-true, lt-ltb, le-ltb, le-leb, true≢false}
-use Rattle.std.proofs.lemmas.Bool.Decides.{nat_tests}
+use Rattle.std.proofs.Common.{◌≡◌, ℕ, zero, suc, ◌+◌, ◌-◌, ◌^◌, ◌<◌, ◌≤◌, Bool, true, false, cond, not, ◌&&◌, eqb, ltb, leb, List, [], ◌∷◌, ◌++◌, length, take, is_some, Some, None, Ok, Option, sym, refl, ap, ◌∙◌, subst, arith}
+use Rattle.std.proofs.lemmas.Bool.{cond-true, eq-eqb, and_from, and_parts, ltb-true, lt-ltb, le-ltb, le-leb}
 use Rattle.protocol.specs.declared.refusals.Refusal.{Refusal}
-use Rattle.protocol.specs.Limits.{queue_limit}
 use Rattle.gates.specs.Timer.{Sends}
 use Rattle.gateway.specs.declared.state.Talk.{Talk}
 use Rattle.gateway.specs.declared.state.Peer.{Peer}
 use Rattle.gateway.specs.declared.state.Gateway.{Gateway}
 use Rattle.gateway.specs.declared.state.Word.{Word}
-use Rattle.gateway.specs.declared.state.Word.TheVariants.{Hello, Reply, Packet, Empty}
-use Rattle.gateway.specs.declared.state.Taken.TheVariants.{Answer, Sure, Out, Alive}
+use Rattle.gateway.specs.declared.state.Word.TheVariants.{Hello, Reply, Packet}
+use Rattle.gateway.specs.declared.state.Taken.TheVariants.{Sure}
 use Rattle.gateway.specs.Slots.{first_that, replaced}
 use Rattle.gateway.specs.Talks.{fresh_talk, may_send, sent_one}
-use Rattle.gateway.specs.Peers.{same_tag, stored, with_waiting}
-use Rattle.gateway.specs.Steps.{is_peer, peer_at, storing, answer, leaves, reply_fault, reply_peer, took, took_after, sending, packet_in, sent_to, is_waiting, released_by, release, release_after, room_fault, put_fault, put, due_at, ages, may_greet, greet}
+use Rattle.gateway.specs.Peers.{same_tag, with_waiting}
+use Rattle.gateway.specs.Steps.{is_peer, peer_at, storing, answer, leaves, reply_fault, reply_peer, took, took_after, sending, packet_in, sent_to, is_waiting, released_by, room_fault, put_fault, put, due_at, ages, may_greet, greet}
 use Rattle.events.specs.Flow.{Flow, quiet, as_list, emits, next_tag, greet_if, releases, drains}
-use Rattle.events.specs.Calls.{on_word, heeded}
-use Rattle.timing.specs.Room.{is_packet, packets, AllGoOut}
-use Rattle.timing.proofs.Alike.{Alike, alike, alike_on, alike_storing, alike_release, alike_greet_if, alike_releases, alike_took, alike_peer}
+use Rattle.events.specs.Calls.{heeded}
+use Rattle.timing.specs.Room.{packets, AllGoOut}
+use Rattle.timing.proofs.Alike.{Alike, alike_on, alike_storing, alike_greet_if, alike_took, alike_peer}
 use Rattle.timing.proofs.Timers.{at_it}
 use Rattle.timing.proofs.Draining.{greet-waiting, greet-talks}
 

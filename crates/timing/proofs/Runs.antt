@@ -1,11 +1,11 @@
 -- Every call does to the timer of every peer what the abstract protocol says. Assumes nothing.
-use Rattle.std.proofs.Common.{◌≡◌, ℕ, zero, suc, ◌+◌, ◌-◌, ◌^◌, ◌<◌, ◌≤◌, min, Bool, true, false, cond, not, ◌&&◌, ◌||◌, eqb, ltb, leb, ◌⊎◌, List, [], ◌∷◌, ◌++◌, length, get_or, replicate, Some, None, Ok, Err, Option, Result, sym, refl, ap, ◌∙◌, subst, inl, inr, ⊎_elim, append_assoc, append-nil, arith}
+use Rattle.std.proofs.Common.{◌≡◌, ℕ, suc, ◌+◌, ◌-◌, ◌^◌, ◌<◌, ◌≤◌, min, Bool, true, false, cond, not, ◌&&◌, ◌||◌, eqb, ltb, List, [], ◌∷◌, ◌++◌, length, Some, None, Ok, Err, Option, Result, sym, refl, ap, ◌∙◌, subst, inl, ⊎_elim, append_assoc, arith}
 use Rattle.std.proofs.lemmas.Bool.{cond-true, cond-false, eq-eqb, ne_eqb, cases_eq, and_parts, ltb-true, true≢false}
 use Rattle.std.proofs.lemmas.List.{length-map, length-replicate, get_or-replicate}
 use Rattle.std.proofs.lemmas.Bool.Decides.{nat_tests}
 use Rattle.protocol.specs.declared.refusals.Refusal.{Refusal}
 use Rattle.protocol.specs.Limits.{gates_limit, queue_limit}
-use Rattle.gates.specs.Timer.{Timer, Deed, Ticks, Sends, Queues, Takes, Restarts, Did, Then, after, after_hello, due, timer_of, first_timer, due_after, Obeys, Exact, has, lets_in, queues, owes}
+use Rattle.gates.specs.Timer.{Timer, Deed, Ticks, Sends, Queues, Takes, Restarts, Did, Then, after, after_hello, due, timer_of, Obeys, Exact, has, lets_in, queues, owes}
 use Rattle.gates.proofs.Timer.{timely, prompt, rising}
 use Rattle.gateway.specs.declared.state.Gateway.{Gateway}
 use Rattle.gateway.specs.declared.state.Word.{Word}
@@ -14,15 +14,15 @@ use Rattle.gateway.specs.declared.state.Taken.TheVariants.{Answer, Sure, Out, Al
 use Rattle.gateway.specs.Peers.{unknown, forgotten}
 use Rattle.gateway.specs.Rules.{timer_of as timer_in}
 use Rattle.gateway.specs.Steps.{blank, fresh, is_peer, peer_at, timer, due_at, ages, took, took_after, put, put_after, ticked, restarted}
-use Rattle.events.specs.Flow.{Flow, quiet, next_tag, greet_if, hellos_below, empties_below, drains}
+use Rattle.events.specs.Flow.{Flow, quiet, next_tag, greet_if, hellos_below, drains}
 use Rattle.events.specs.Calls.{on_tick, on_packet, on_word, posted, heeded, by_of}
-use Rattle.events.proofs.Flows.{Step, hellos-step}
+use Rattle.events.proofs.Flows.{hellos-step}
 use Rattle.timing.specs.Runs.{Call, Tick, Put, Take, Restart, does, memory_of, said, before_hello, did_put, did_drain, emptied, did_hear, did_take, dids_of, history_of, Supplied, AllSupplied}
 use Rattle.timing.specs.Promise.{Goes, Tracks, Timed, NeverLong, SoonAsked, HellosRise}
 use Rattle.timing.proofs.Alike.{Alike, alike, alike_on, alike_took, alike_put, alike_greet_if, alike_hellos, alike_empties, alike_drains, alike_peer}
 use Rattle.timing.proofs.Timers.{greet_if_it, greet_if_other, empties_same, hellos-before, hellos-after, said-due, due-said}
 use Rattle.timing.proofs.Histories.{exact_on, obeys_on}
-use Rattle.timing.proofs.Takings.{Like, like, restart-timer, put_timer, put-timer, put_other, take_timer, take-timer, take-other, release_other}
+use Rattle.timing.proofs.Takings.{Like, like, restart-timer, put_timer, put-timer, put_other, take_timer, take-timer, take-other}
 use Rattle.timing.proofs.Words.{run-told}
 use Rattle.timing.proofs.Draining.{Stood, stood_all, drains-other}
 

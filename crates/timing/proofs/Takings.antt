@@ -1,21 +1,21 @@
 -- What a packet put in, a word taken and what waited do to the timer of a peer. Assumes nothing.
-use Rattle.std.proofs.Common.{◌≡◌, ℕ, zero, suc, ◌+◌, ◌-◌, ◌<◌, ◌≤◌, Bool, true, false, cond, not, ◌&&◌, ◌||◌, eqb, ltb, leb, ◌⊎◌, List, [], ◌∷◌, ◌++◌, length, get_or, is_some, Some, None, Ok, Err, Option, Result, sym, refl, ap, ◌∙◌, subst, inl, inr, ⊎_elim, arith}
+use Rattle.std.proofs.Common.{◌≡◌, ℕ, ◌+◌, ◌<◌, ◌≤◌, Bool, true, false, cond, not, eqb, length, is_some, Some, None, Ok, Err, Option, Result, sym, refl, ap, ◌∙◌, subst, arith}
 use Rattle.std.proofs.lemmas.Bool.{ne_eqb}
 use Rattle.std.proofs.lemmas.List.{get_or-map}
 use Rattle.protocol.specs.declared.refusals.Refusal.{Refusal}
-use Rattle.gates.specs.Timer.{Timer, Deed, Ticks, Sends, Queues, Takes, Restarts, after}
+use Rattle.gates.specs.Timer.{Timer, Sends, Queues, Takes, Restarts, after}
 use Rattle.gateway.specs.declared.state.Talk.{Talk}
 use Rattle.gateway.specs.declared.state.Peer.{Peer}
 use Rattle.gateway.specs.declared.state.Gateway.{Gateway}
 use Rattle.gateway.specs.declared.state.Word.{Word}
 use Rattle.gateway.specs.declared.state.Word.TheVariants.{Hello, Reply, Packet, Empty}
 use Rattle.gateway.specs.declared.state.Taken.{Taken}
-use Rattle.gateway.specs.declared.state.Taken.TheVariants.{Answer, Sure, Out, Alive}
+use Rattle.gateway.specs.declared.state.Taken.TheVariants.{Out, Alive}
 use Rattle.gateway.specs.Peers.{forgotten}
 use Rattle.gateway.specs.Rules.{timer_of}
 use Rattle.gateway.specs.Steps.{blank, peer_at, storing, timer, answer, leaves, taken, heard_after, hello_fault, reply_fault, packet_talk, found_talk, took, took_after, sending, packet_in, sent_after, put_fault, put, put_after, is_waiting, released_by, release, release_after, restarted}
 use Rattle.events.specs.Calls.{by_of}
-use Rattle.timing.proofs.Timers.{at_it, at_other, timer_it, timer-other}
+use Rattle.timing.proofs.Timers.{at_it, timer_it, timer-other}
 
 -- A restart.
 pub restart-timer : (e : ℕ) (s : Gateway) → e < length s.peers → timer e (restarted s) ≡ after Restarts (timer e s)

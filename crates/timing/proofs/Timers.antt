@@ -1,18 +1,17 @@
 -- What each step of a gate does to the timer of a peer. Assumes nothing.
-use Rattle.std.proofs.Common.{◌≡◌, ℕ, zero, suc, ◌+◌, ◌-◌, ◌<◌, ◌≤◌, Bool, true, false, cond, not, ◌&&◌, ◌||◌, eqb, ltb, leb, ◌⊎◌, List, [], ◌∷◌, ◌++◌, length, get_or, set, is_some, Some, None, Ok, Err, Option, Result, sym, refl, ap, ◌∙◌, subst, inl, inr, ⊎_elim, arith, get_or-set_other, get_or-set_same}
-use Rattle.std.proofs.lemmas.Bool.{and_parts, and_from, ltb-true, cases_eq, true≢false}
+use Rattle.std.proofs.Common.{◌≡◌, ℕ, zero, suc, ◌<◌, ◌≤◌, Bool, true, false, cond, not, ◌&&◌, eqb, ltb, ◌⊎◌, List, length, Some, None, Option, sym, refl, ap, ◌∙◌, inl, inr, ⊎_elim, arith, get_or-set_other, get_or-set_same}
+use Rattle.std.proofs.lemmas.Bool.{and_parts, and_from, cases_eq, true≢false}
 use Rattle.std.proofs.lemmas.Bool.Decides.{nat_tests}
-use Rattle.gates.specs.Timer.{Timer, Deed, Ticks, Sends, Queues, Takes, Restarts, after, after_hello, due}
+use Rattle.gates.specs.Timer.{Timer, Deed, Ticks, Sends, Queues, Takes, Restarts, after_hello, due}
 use Rattle.gateway.specs.declared.state.Talk.{Talk}
 use Rattle.gateway.specs.declared.state.Peer.{Peer}
 use Rattle.gateway.specs.declared.state.Gateway.{Gateway}
-use Rattle.gateway.specs.declared.state.Word.{Word}
 use Rattle.gateway.specs.Peers.{asked}
 use Rattle.gateway.specs.Rules.{timer_of}
-use Rattle.gateway.specs.Steps.{blank, is_peer, peer_at, storing, timer, due_at, idle_at, stayed_by, stay_after, may_greet, greet_after}
-use Rattle.events.specs.Flow.{Flow, greet_if, next_tag, hellos_below, stays, empties_in, empties_below}
+use Rattle.gateway.specs.Steps.{blank, is_peer, peer_at, storing, timer, due_at, idle_at, stayed_by, may_greet}
+use Rattle.events.specs.Flow.{Flow, greet_if, next_tag, hellos_below, empties_in, empties_below}
 use Rattle.timing.specs.Runs.{said}
-use Rattle.timing.proofs.Alike.{Alike, alike_hellos, alike_empties, alike_empties_in}
+use Rattle.timing.proofs.Alike.{alike_hellos, alike_empties, alike_empties_in}
 
 pub at_it : (e : ℕ) (p : Peer) (s : Gateway) → e < length s.peers → peer_at e (storing e p s) ≡ p
 at_it e p s h = get_or-set_same s.peers e p blank h

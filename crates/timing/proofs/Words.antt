@@ -1,10 +1,9 @@
 -- A hello followed a deed exactly if it is among the words that went out. Assumes nothing.
-use Rattle.std.proofs.Common.{◌≡◌, ℕ, zero, suc, ◌+◌, ◌<◌, ◌≤◌, Bool, true, false, cond, not, ◌&&◌, ◌||◌, eqb, ◌⊎◌, List, [], ◌∷◌, ◌++◌, length, get_or, is_some, Some, None, Ok, Err, Option, Result, sym, refl, ap, ◌∙◌, subst, inl, inr, ⊎_elim, append-nil, arith}
+use Rattle.std.proofs.Common.{◌≡◌, ℕ, zero, suc, ◌<◌, ◌≤◌, Bool, true, false, cond, ◌&&◌, ◌||◌, eqb, ◌⊎◌, List, [], ◌∷◌, ◌++◌, is_some, Some, None, Ok, Err, Option, Result, sym, refl, ap, ◌∙◌, subst, inl, inr, ⊎_elim, arith}
 use Rattle.std.proofs.lemmas.Bool.{cond-true, cond-false, eq-eqb, ne_eqb, cases_eq}
-use Rattle.std.proofs.lemmas.Bool.Decides.{nat_tests}
 use Rattle.protocol.specs.declared.refusals.Refusal.{Refusal}
 use Rattle.protocol.specs.Limits.{queue_limit}
-use Rattle.gates.specs.Timer.{Ticks, Sends, Queues, Takes, Did, Then, has_hello}
+use Rattle.gates.specs.Timer.{Ticks, Sends, Queues, Did, Then, has_hello}
 use Rattle.gateway.specs.declared.state.Talk.{Talk}
 use Rattle.gateway.specs.declared.state.Gateway.{Gateway}
 use Rattle.gateway.specs.declared.state.Word.{Word}
@@ -13,8 +12,8 @@ use Rattle.gateway.specs.declared.state.Taken.{Taken}
 use Rattle.gateway.specs.declared.state.Taken.TheVariants.{Answer, Sure, Out, Alive}
 use Rattle.gateway.specs.Talks.{sent_one}
 use Rattle.gateway.specs.Steps.{due_at, ages, may_greet, greet, answer, taken, hello_fault, reply_fault, packet_talk, found_talk, took, took_after, sending, packet_in, put_fault, put, put_after, is_waiting, release, release_after, idle_at, empty_in, stay, ticked}
-use Rattle.events.specs.Flow.{Flow, quiet, as_list, emits, next_tag, greet_if, hellos_below, stays, empties_in, empties_below, releases, drains}
-use Rattle.events.specs.Calls.{on_tick, on_packet, on_word, posted, heeded, by_of}
+use Rattle.events.specs.Flow.{Flow, quiet, as_list, emits, next_tag, greet_if, hellos_below, empties_in, empties_below, releases, drains}
+use Rattle.events.specs.Calls.{posted, heeded, by_of}
 use Rattle.timing.specs.Runs.{Call, Tick, Put, Take, Restart, does, memory_of, said, did_put, did_release, did_drain, did_hear, did_take, dids_of, history_of, is_hello_to, greets_in, greeted}
 
 or_false : (b : Bool) → (b || false) ≡ b

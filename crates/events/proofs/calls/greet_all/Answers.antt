@@ -2,7 +2,6 @@ use Rattle.std.proofs.Common.{◌≡◌, ◌+◌, sym, refl, ap, ◌∙◌, subs
 use Rattle.gates.specs.Timer.{Ticks}
 use Rattle.gateway.specs.Steps.{due_at}
 use Rattle.events.specs.Flow.{quiet, holding, greet_if, hellos_below}
-use Rattle.events.specs.Outboxes.{Ready}
 use Rattle.events.proofs.Flows.{Step, greet-step, hellos-step, ready_on, ready_less, turn, cleared-quiet, cleared-same, ready_cleared, cleared_flow}
 use Rattle.events.proofs.calls.greet_all.Goals as goal
 

@@ -1,9 +1,8 @@
 use Rattle.std.proofs.Common.{sym, ap, ◌∙◌, rules}
-use Rattle.gateway.specs.Steps.{took, took_after}
+use Rattle.gateway.specs.Steps.{took_after}
 use Rattle.gateway.proofs.Refused.{word-refused}
-use Rattle.events.specs.Flow.{quiet, holding}
+use Rattle.events.specs.Flow.{holding}
 use Rattle.events.specs.Calls.{heeded, by_of}
-use Rattle.events.proofs.Flows.{cleared-quiet, cleared-same}
 use Rattle.events.proofs.calls.on_word.Goals as goal
 
 pub returns-in_err-taken : goal.returns-in_err-taken

@@ -1,4 +1,4 @@
-use Rattle.std.proofs.Common.{◌+◌, ◌*◌, sym, refl, ap, ◌∙◌, add-one, arith}
+use Rattle.std.proofs.Common.{◌+◌, ◌*◌, sym, refl, ap, add-one, arith}
 use Rattle.events.specs.Flow.{flow_of, releases, drains}
 use Rattle.events.proofs.Flows.{releases-step, drains-step, ready_on, ready_less, turn}
 use Rattle.events.proofs.Outboxes.{itself}

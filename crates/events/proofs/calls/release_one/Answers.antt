@@ -1,4 +1,4 @@
-use Rattle.std.proofs.Common.{◌&&◌, is_some, sym, ap, ◌∙◌, arith}
+use Rattle.std.proofs.Common.{sym, ap, ◌∙◌, arith}
 use Rattle.gates.specs.Timer.{Sends}
 use Rattle.gateway.specs.Steps.{release, release_after, due_at, ages}
 use Rattle.events.specs.Flow.{flow_of, emits, greet_if, releases}

@@ -1,4 +1,4 @@
-use Rattle.std.proofs.Common.{◌+◌, ◌*◌, sym, refl, ap, ◌∙◌, add-one, arith}
+use Rattle.std.proofs.Common.{◌+◌, ◌*◌, sym, refl, ap, add-one, arith}
 use Rattle.events.specs.Flow.{flow_of, empties_in, empties_below}
 use Rattle.events.proofs.Flows.{empties_in_step, empties_step, ready_on, ready_less, turn}
 use Rattle.events.proofs.Outboxes.{itself}

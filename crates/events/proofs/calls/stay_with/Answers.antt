@@ -1,4 +1,4 @@
-use Rattle.std.proofs.Common.{◌+◌, sym, refl, ap, ◌∙◌, add-one, arith}
+use Rattle.std.proofs.Common.{◌+◌, sym, refl, ap, add-one, arith}
 use Rattle.events.specs.Flow.{flow_of, stays, empties_in}
 use Rattle.gateway.specs.Steps.{stay, stay_after}
 use Rattle.events.proofs.Flows.{emits-step, empties_in_step, ready_on, ready_less, turn}

@@ -1,5 +1,4 @@
-use Rattle.std.proofs.Common.{◌≡◌, ◌+◌, [], ◌∷◌, ◌++◌, sym, ap, ◌∙◌, ap₂, arith}
-use Rattle.gateway.specs.Steps.{fresh}
+use Rattle.std.proofs.Common.{◌≡◌, [], ◌∷◌, ◌++◌, sym, ap, ◌∙◌, ap₂, arith}
 use Rattle.refinement.specs.Sea.{new_gates}
 use Rattle.refinement.proofs.Begins.{new_none, new_more, begun}
 use Rattle.refinement.proofs.state.Sea.new.Goals as goal
