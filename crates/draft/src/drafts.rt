@@ -134,6 +134,7 @@ impl Draft {
     }
 
     // The plan to which the gate of this number is added, which must be the next one.
+    #[tactic(auto, unfolding(crate::specs::Drafts::next_gate))]
     fn next_gate(self, word: &[u8]) -> Result<Plan, TextFault>
         ensures { result ≡ next_gate word.now self }
     {

@@ -20,6 +20,7 @@ pub fn read(text: &[u8]) -> Result<Draft, Wrong>
         draft = match draft.take_line(line) {
             Ok(next) => next,
             Err(fault) => {
+                #[tactic(auto, using(crate::proofs::Lines::line_bad), unfolding(crate::specs::Reading::draft_read))]
                 return Err(Wrong {
                     line: before + 1,
                     fault,

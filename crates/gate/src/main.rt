@@ -8,6 +8,7 @@ use protocol::Refusal;
 use settings::Settings;
 use state::{Answer, Gate, Missing};
 use std::io::{BufRead, BufReader};
+use std::process::ExitCode;
 use std::{env, fs};
 
 // What was said on standard error so far: each thing that can't be done yet is named once.
@@ -17,12 +18,12 @@ struct Told {
     packets: bool,
 }
 
-fn main(rt: HostRuntime) -> anyhow::Result<()> {
-    let done = run(&rt);
-    if let Err(why) = &done {
+fn main(rt: HostRuntime) -> anyhow::Result<ExitCode> {
+    if let Err(why) = run(&rt) {
         eprintln!(rt; "gate: {why}")?;
+        return Ok(ExitCode::FAILURE);
     }
-    done
+    Ok(ExitCode::SUCCESS)
 }
 
 // The path of the settings, the only argument.

@@ -36,22 +36,27 @@ fn address(bytes: &[u8], at: usize) -> u32
 
 /// The addresses of the IPv4 packet that the bytes are. Refuses all bytes that aren't one whole
 /// packet of at most 1,280 bytes with a right header sum. It changes nothing.
+#[tactic(auto, using(crate::proofs::Packets::taken_by))]
 pub fn read(bytes: &[u8]) -> Result<Packet, Refusal>
     ensures value { result ≡ packet_in bytes.now }
     ensures packets { MatchResult result (λ p. IsPacket bytes.now × (p.source ≡ source_in bytes.now) × (p.destination ≡ destination_in bytes.now)) (λ e. (e ≡ BadPacket) × (IsPacket bytes.now → ⊥)) }
 {
     if bytes.len() < MIN_HEADER {
+        #[tactic(auto, using(crate::proofs::Packets::refused))]
         return Err(Refusal::BadPacket);
     }
     let header = usize::from(bytes[0] % 16) * 4;
     let total = usize::from(u16::from_be_bytes([bytes[2], bytes[3]]));
     if bytes[0] / 16 != VERSION || header < MIN_HEADER || header > bytes.len() {
+        #[tactic(auto, using(crate::proofs::Packets::refused))]
         return Err(Refusal::BadPacket);
     }
     if total != bytes.len() || total > MAX_PACKET {
+        #[tactic(auto, using(crate::proofs::Packets::refused))]
         return Err(Refusal::BadPacket);
     }
     if ones_sum(&bytes[0..header]) != ALL_ONES {
+        #[tactic(auto, using(crate::proofs::Packets::refused))]
         return Err(Refusal::BadPacket);
     }
     Ok(Packet {

@@ -12,6 +12,7 @@ fn ones_add(x: u16, y: u16) -> u16
 
 /// The ones' complement sum of the 16-bit numbers that the bytes are, in pairs, the high byte
 /// first; a last byte without another counts as the high one. It changes nothing.
+#[tactic(auto, using(crate::proofs::Adding::pair_more))]
 pub fn ones_sum(bytes: &[u8]) -> u16
     ensures { result ≡ ones_sum 0 bytes.now }
 {

@@ -19,13 +19,12 @@ use text::Draft;
 
 const USE: &str = "use: plan make PLAN FOLDER [DRAWN], plan show SETTINGS, plan check SETTINGS";
 
-fn main(rt: HostRuntime) -> ExitCode {
-    let Err(why) = run(&rt) else {
-        return ExitCode::SUCCESS;
-    };
-    // Where standard error can't be written either, the status says it alone.
-    let _told = eprintln!(rt; "plan: {why}").is_ok();
-    ExitCode::FAILURE
+fn main(rt: HostRuntime) -> anyhow::Result<ExitCode> {
+    if let Err(why) = run(&rt) {
+        eprintln!(rt; "plan: {why}")?;
+        return Ok(ExitCode::FAILURE);
+    }
+    Ok(ExitCode::SUCCESS)
 }
 
 fn run(rt: &HostRuntime) -> anyhow::Result<()> {

@@ -1,22 +1,21 @@
 -- Reading what was sealed gives the word back, and each word has its length. Assumes nothing.
-use Rattle.std.proofs.Common.{◌≡◌, ℕ, ◌+◌, ◌^◌, ◌<◌, ◌≤◌, Bool, true, false, cond, ◌&&◌, ◌||◌, eqb, leb, List, [], ◌∷◌, ◌++◌, length, get_or, take, drop, is_some, Some, None, Ok, Err, Result, sym, refl, ap, ◌∙◌, subst, ap₂, arith}
+use Rattle.std.proofs.Common.{◌≡◌, ℕ, ◌+◌, ◌^◌, ◌<◌, ◌≤◌, true, false, cond, ◌&&◌, ◌||◌, eqb, List, [], ◌∷◌, ◌++◌, length, get_or, take, drop, is_some, Some, Ok, Err, Result, refl, ap, ◌∙◌, subst, ap₂, arith}
 use Rattle.std.proofs.lemmas.Bool.Decides.{nat_tests}
 use Rattle.cipher.specs.ChaCha20.{encrypt}
-use Rattle.protocol.specs.Kinds.{kind_byte, length_fits, kind_of, IsWord}
+use Rattle.protocol.specs.Kinds.{kind_byte, length_fits, kind_of}
 use Rattle.protocol.proofs.Words.{kind_is}
 use Rattle.protocol.specs.declared.kinds.Kind.{Kind}
 use Rattle.protocol.specs.declared.kinds.Kind.TheVariants as kind
 use Rattle.protocol.specs.declared.refusals.Refusal.{Refusal}
-use Rattle.protocol.specs.declared.refusals.Refusal.TheVariants.{WrongGate, WrongSum, ZeroTag}
-use Rattle.wire.specs.declared.state.Header.{Header}
+use Rattle.protocol.specs.declared.refusals.Refusal.TheVariants.{WrongSum, ZeroTag}
 use Rattle.wire.specs.declared.state.Header.TheVariants as header
 use Rattle.wire.specs.Keys.{turn_key, talk_key, number_nonce}
 use Rattle.wire.specs.Numbers.{bytes8, number8}
-use Rattle.wire.specs.Words.{Word, Hello, Reply, Packet, Empty, sealed_by, sealed, bytes_of}
+use Rattle.wire.specs.Words.{Word, Hello, Reply, Packet, Empty, bytes_of}
 use Rattle.wire.specs.Reading.{Keys, Talks, maker_in, opener_in, tag_in, number_in, nonce_in, inside_in, sum_right, inside_under, first_in, second_in, fields_in, header_in, summed, hello_as, reply_as, hello_under, reply_under, packet_under, empty_under, with_pair, with_talk, read_by, read_word}
 use Rattle.wire.proofs.Headers.{header_right}
 use Rattle.wire.proofs.Streams.{encrypt-twice}
-use Rattle.reading.specs.Sealed.{ReadsBack, Lengths, Fits, NoZero, Knows}
+use Rattle.reading.specs.Sealed.{ReadsBack, Lengths}
 use Rattle.reading.proofs.Digits.{number-bytes}
 use Rattle.reading.proofs.Facts.{Facts, facts, clear_kind, clear-maker, clear-opener, clear-tag, clear-number, clear_nonce}
 

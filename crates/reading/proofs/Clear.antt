@@ -1,6 +1,6 @@
 -- What is read of a word agrees with its clear bytes. Assumes nothing.
-use Rattle.std.proofs.Common.{◌≡◌, ℕ, Bool, true, false, cond, ◌||◌, eqb, List, ◌++◌, length, get_or, take, is_some, Some, None, Ok, Err, Option, Result, sym, refl, ap, ◌∙◌, subst, arith}
-use Rattle.protocol.specs.Kinds.{kind_byte, IsWord}
+use Rattle.std.proofs.Common.{◌≡◌, ℕ, Bool, true, false, cond, List, ◌++◌, get_or, take, is_some, Some, None, Ok, Err, Option, Result, sym, refl, ap, ◌∙◌, subst, arith}
+use Rattle.protocol.specs.Kinds.{kind_byte}
 use Rattle.protocol.proofs.Words.{first_byte}
 use Rattle.protocol.specs.declared.kinds.Kind.{Kind}
 use Rattle.protocol.specs.declared.kinds.Kind.TheVariants as kind
@@ -8,11 +8,11 @@ use Rattle.protocol.specs.declared.refusals.Refusal.{Refusal}
 use Rattle.protocol.specs.declared.refusals.Refusal.TheVariants.{WrongSum, ZeroTag}
 use Rattle.wire.specs.declared.state.Header.{Header}
 use Rattle.wire.specs.declared.state.Header.TheVariants as header
-use Rattle.wire.specs.Keys.{turn_key, talk_key, number_nonce}
+use Rattle.wire.specs.Keys.{talk_key, number_nonce}
 use Rattle.wire.specs.Numbers.{bytes8}
 use Rattle.wire.specs.Words.{Word, Hello, Reply, Packet, Empty, bytes_of}
-use Rattle.wire.specs.Reading.{Keys, Talks, maker_in, opener_in, tag_in, nonce_in, sum_right, inside_under, first_in, second_in, header_in, hello_under, reply_under, packet_under, empty_under, with_pair, with_talk, read_by, read_word}
-use Rattle.wire.proofs.Headers.{From, In, Says, header_says}
+use Rattle.wire.specs.Reading.{Keys, Talks, maker_in, opener_in, nonce_in, sum_right, inside_under, first_in, second_in, header_in, hello_under, reply_under, packet_under, empty_under, with_pair, with_talk, read_by, read_word}
+use Rattle.wire.proofs.Headers.{From, Says, header_says}
 use Rattle.reading.specs.Sealed.{by_of, for_of, sort_of, Gates}
 use Rattle.reading.proofs.Facts.{clear_kind, clear-maker, clear-opener}
 

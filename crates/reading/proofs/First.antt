@@ -11,7 +11,7 @@ use Rattle.protocol.specs.declared.refusals.Refusal.TheVariants.{UnknownWord, Wr
 use Rattle.wire.specs.declared.state.Header.TheVariants as header
 use Rattle.wire.specs.Keys.{talk_key, number_nonce}
 use Rattle.wire.specs.Words.{Word, Hello, Reply, Packet, Empty}
-use Rattle.wire.specs.Reading.{Keys, Talks, maker_in, opener_in, tag_in, number_in, nonce_in, sum_right, inside_under, first_in, second_in, fields_in, header_as, hello_under, reply_under, packet_under, empty_under, with_pair, with_talk, read_by, read_word}
+use Rattle.wire.specs.Reading.{Keys, Talks, maker_in, opener_in, tag_in, number_in, nonce_in, sum_right, inside_under, first_in, second_in, header_as, hello_under, reply_under, packet_under, empty_under, with_pair, with_talk, read_by, read_word}
 use Rattle.reading.specs.Order.{FirstFault, is_hello, is_handshake, pair_of, talk_of, unknown, wrong_gate, no_talk, faulty, order, first_of}
 
 -- four faults in their order, where the first two are not there

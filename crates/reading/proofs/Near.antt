@@ -1,5 +1,5 @@
 -- Reading looks at one key and one talk. Assumes nothing.
-use Rattle.std.proofs.Common.{◌≡◌, ℕ, Bool, true, false, cond, ◌&&◌, eqb, List, is_some, Ok, Err, Option, Result, refl, ap, ◌∙◌, ap₂}
+use Rattle.std.proofs.Common.{◌≡◌, Bool, true, false, cond, ◌&&◌, eqb, is_some, Ok, Err, Result, refl, ap, ◌∙◌, ap₂}
 use Rattle.protocol.specs.Kinds.{kind_of}
 use Rattle.protocol.specs.declared.kinds.Kind.{Kind}
 use Rattle.protocol.specs.declared.kinds.Kind.TheVariants as kind
@@ -7,7 +7,7 @@ use Rattle.protocol.specs.declared.refusals.Refusal.{Refusal}
 use Rattle.protocol.specs.declared.refusals.Refusal.TheVariants.{WrongGate, ZeroTag}
 use Rattle.wire.specs.declared.state.Header.TheVariants as header
 use Rattle.wire.specs.Keys.{talk_key}
-use Rattle.wire.specs.Reading.{Keys, Talks, maker_in, opener_in, tag_in, number_in, fields_in, header_as, hello_under, reply_under, packet_under, empty_under, with_pair, with_talk, read_by, read_word}
+use Rattle.wire.specs.Reading.{maker_in, opener_in, tag_in, number_in, fields_in, header_as, hello_under, reply_under, packet_under, empty_under, with_pair, with_talk, read_by, read_word}
 use Rattle.reading.specs.Sealed.{Local}
 
 pub local : Local

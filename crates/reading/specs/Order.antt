@@ -1,9 +1,8 @@
 -- Why bytes are refused: each fault by itself, and which of them is answered. Assumes nothing.
-use Rattle.std.specs.Prelude.{◌≡◌, ℕ, Bool, true, false, cond, not, ◌&&◌, ◌||◌, List, [], ◌∷◌, is_some, Some, None, Option, ◌==◌, slice_index}
+use Rattle.std.specs.Prelude.{◌≡◌, ℕ, Bool, false, cond, not, ◌&&◌, ◌||◌, List, [], ◌∷◌, is_some, Some, None, Option, ◌==◌, slice_index}
 use Rattle.std.specs.Option.{unwrap_or}
 use Rattle.std.specs.Result.{result_err}
 use Rattle.protocol.specs.Kinds.{kind_byte, is_word}
-use Rattle.protocol.specs.declared.kinds.Kind.{Kind}
 use Rattle.protocol.specs.declared.kinds.Kind.TheVariants as kind
 use Rattle.protocol.specs.declared.refusals.Refusal.{Refusal}
 use Rattle.protocol.specs.declared.refusals.Refusal.TheVariants.{UnknownWord, WrongGate, WrongSum, ZeroTag, OldHello, UnaskedReply, NoTalk, BelowWindow, RepeatedNumber, BadPacket, ForeignAddress, NoRoute, QueueFull, NoDrawnBytes, BadSettings}

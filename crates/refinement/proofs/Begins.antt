@@ -1,7 +1,7 @@
 -- Gates that were just made are at the beginning of a run; and playing one event more. Assumes nothing.
-use Rattle.std.proofs.Common.{◌≡◌, ℕ, zero, suc, ◌+◌, ◌<◌, Bool, true, cond, List, [], ◌∷◌, ◌++◌, length, get_or, take, sym, refl, ap, ◌∙◌, subst, ⊎_elim, add-one, arith, length-append}
+use Rattle.std.proofs.Common.{◌≡◌, ℕ, zero, suc, ◌+◌, ◌<◌, List, [], ◌∷◌, ◌++◌, length, get_or, take, sym, refl, ap, ◌∙◌, subst, ⊎_elim, add-one, arith, length-append}
 use Rattle.std.proofs.lemmas.List.{take_more, get_or_default, get_or_push, get_or_append_left}
-use Rattle.std.proofs.lemmas.Bool.{cases_eq, cond-true}
+use Rattle.std.proofs.lemmas.Bool.{cases_eq}
 use Rattle.gates.specs.World.{empty_gate, world}
 use Rattle.gates.specs.Promise.{GreetsBelow, lied}
 use Rattle.gateway.specs.declared.state.Gateway.{Gateway}
@@ -34,13 +34,11 @@ plays_more owners events b i e l s =
     ap (λ z. plays owners z b) (take_more events i e l ∙ ap (λ z. take i events ++ (z ∷ [])) (sym s)) ∙
     (plays-append owners (take i events) (e ∷ []) b ∙ plays-one owners e (plays owners (take i events) b))
 
--- a step that was made is one event more; one that was not leaves all as it was
-pub step_made : (owners : List ℕ) (events : List Event) (b before after : Books) (ok : Bool) (i : ℕ) → after ≡ cond ok (happens owners (get_or events i (Tick 0)) before) before → ok ≡ true →
-    before ≡ plays owners (take i events) b → i < length events → after ≡ plays owners (take (i + 1) events) b
-step_made owners events b before after ok i e t p l =
-    e ∙
-    (cond-true ok (happens owners (get_or events i (Tick 0)) before) before t ∙
-    (ap (happens owners (get_or events i (Tick 0))) p ∙ sym (plays_more owners events b i (get_or events i (Tick 0)) l (get_or_default events i (Tick 0) (get_or events i (Tick 0)) l))))
+-- the same, of the event that stands there
+pub plays_next : (owners : List ℕ) (events : List Event) (b : Books) (i : ℕ) → i < length events →
+    plays owners (take (i + 1) events) b ≡ happens owners (get_or events i (Tick 0)) (plays owners (take i events) b)
+plays_next owners events b i l =
+    plays_more owners events b i (get_or events i (Tick 0)) l (get_or_default events i (Tick 0) (get_or events i (Tick 0)) l)
 
 -- what was played keeps the promise
 pub played-keeps : (owners : List ℕ) (events : List Event) (b after : Books) → after ≡ plays owners events b → Plays owners events b after
@@ -85,3 +83,8 @@ begun k life most gates net put out g n p o owner =
       below = tt;
       honest = λ a. refl;
     }
+
+-- for the loop that makes the gates, and for the one that plays the events
+pub ruleset beginning = (new_none, new_more)
+
+pub ruleset playing = (plays-none, plays_next)

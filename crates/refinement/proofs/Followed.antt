@@ -1,5 +1,5 @@
 -- Any word that is brought does what its delivery does; and a gate that was just made. Assumes nothing.
-use Rattle.std.proofs.Common.{ℕ, ◌≤◌, List, ◌++◌, sym, refl, subst, arith}
+use Rattle.std.proofs.Common.{◌≡◌, ℕ, ◌≤◌, List, ◌++◌, sym, refl, subst, arith}
 use Rattle.std.proofs.lemmas.List.{get_or-replicate}
 use Rattle.gates.specs.Lists.{At}
 use Rattle.gates.specs.World.{Ev, empty_gate, waits_for, world}
@@ -54,3 +54,7 @@ start-stands k life most a =
           });
       known = λ t i. absurd (mathlib.Core.List.Memᴰ.not-nil i);
     }
+
+-- the same, of a memory that is known to be such a gate's
+pub made : (k life most a : ℕ) (s : Gateway) → s ≡ fresh a k life most → Stands k life most a s 1 empty_gate
+made k life most a s e = subst (λ z. Stands k life most a z 1 empty_gate) (sym e) (start-stands k life most a)

@@ -30,6 +30,7 @@ fn start(own: u8, gates: u8, life: u16, most: u32) -> Gateway
 
 impl Sea {
     /// Gates that were just made, and an empty net; each talk is good for so many ticks and so many numbers.
+    #[tactic(auto, using(crate::proofs::Begins::beginning))]
     pub fn new(heap: Global, gates: u8, life: u16, most: u32) -> Result<Sea, AllocError>
         ensures { IfOk result (λ s. Begun gates life most (books_of s)) }
     {
@@ -145,6 +146,7 @@ impl Sea {
     /// PLAYS A LIST OF EVENTS, and answers how many of them it played: all, or those before memory ran out. Whoever owns which address, and whatever the events
     /// are, while the tags that they offer are new: what came out was put in, by whom it says, for here, once; nothing else goes over the net; and the
     /// gates and the net are those of a run of the abstract protocol, so that all of its promise holds of them.
+    #[tactic(auto, using(crate::proofs::Begins::playing))]
     pub fn play(&mut self, owners: &[u8], events: &[Event]) -> usize
         ensures within { result ≤ length events.now }
         ensures played { books_of self.new ≡ plays owners.now (front result events.now) (books_of self.old) }

@@ -1,6 +1,6 @@
 -- Whether a range is a prefix, decided by trying every length. Assumes nothing.
 use Rattle.std.proofs.Common.{◌≡◌, ℕ, ◌<◌, true, false, is_some, Some, None, Decides, Option, refl, arith, MatchOption}
-use Rattle.std.proofs.lemmas.Bool.Decides.{nat_tests, Decides-below_or}
+use Rattle.std.proofs.lemmas.Bool.Decides.{nat_tests, Decides-below_or, same_from_decides}
 use Rattle.settings.specs.declared.ranges.Range.{Range}
 use Rattle.settings.specs.Ranges.{PrefixOf, IsPrefix, has_length, prefix_below, is_prefix}
 
@@ -25,3 +25,7 @@ some_decides r None none = (λ e. absurd (clash e), λ is. absurd (none is))
     clash : false ≡ true → ⊥
     clash e = let z : ◌≡◌ {A = ℕ} 0 1 = cc in omega arith
 some_decides r (Some bits) is = (λ e. (bits, is), λ p. refl)
+
+-- so the range is a prefix exactly where a length is found
+pub prefix_found : (r : Range) (o : Option ℕ) → MatchOption o (IsPrefix r → ⊥) (λ bits. PrefixOf bits r) → is_some o ≡ is_prefix r
+prefix_found r o found = same_from_decides _ _ (some_decides r o found) (prefix_decides r)

@@ -59,6 +59,7 @@ impl Range {
     }
 
     /// Whether the range is all the addresses of one prefix. It changes nothing.
+    #[tactic(auto, using(crate::proofs::Prefixes::prefix_found))]
     pub fn is_prefix(self) -> bool
         ensures { result ≡ is_prefix self }
     {

@@ -1,5 +1,5 @@
 -- What is told of a word, and left of its bytes, by each way through its reading. Assumes nothing.
-use Rattle.std.proofs.Common.{◌≡◌, ℕ, ◌+◌, ◌-◌, ◌<◌, ◌≤◌, min, max, Bool, true, false, cond, ◌&&◌, ◌||◌, eqb, ltb, List, ◌++◌, length, take, drop, Ok, Err, Result, sym, refl, ap, ◌∙◌, ap₂, arith, le-ltb, lt-ltb}
+use Rattle.std.proofs.Common.{◌≡◌, ℕ, ◌-◌, ◌<◌, ◌≤◌, Bool, true, false, cond, ◌||◌, eqb, ltb, List, ◌++◌, length, take, drop, Ok, Err, Result, sym, refl, ap, ◌∙◌, ap₂, arith, le-ltb, lt-ltb}
 use native.Mathlib.Nat.{min_comm, max_comm}
 use borrow.Rule.Slice.PartMut.{put_mid}
 use Rattle.std.proofs.lemmas.List.{drop-drop, length-take-le, length-drop}
@@ -11,7 +11,6 @@ use Rattle.protocol.specs.declared.refusals.Refusal.{Refusal}
 use Rattle.protocol.specs.declared.refusals.Refusal.TheVariants.{WrongSum, ZeroTag}
 use Rattle.wire.specs.declared.state.Opened.TheVariants as opened
 use Rattle.wire.specs.Keys.{turn_key, talk_key, number_nonce}
-use Rattle.wire.specs.Numbers.{bytes8}
 use Rattle.wire.specs.Words.{Word, Hello, Reply, Packet, Empty}
 use Rattle.wire.proofs.Streams.{length-encrypt}
 use Rattle.wire.specs.Reading.{nonce_in, inside_in, sum_right, inside_under, first_in, second_in, hello_as, reply_as, summed, hello_under, reply_under, packet_under, empty_under, told, left, too_long}

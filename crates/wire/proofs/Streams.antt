@@ -1,5 +1,5 @@
 -- The key stream of the cipher: its length, its bytes, and that turning twice gives the text back. Assumes nothing.
-use Rattle.std.proofs.Common.{◌≡◌, ℕ, zero, suc, ◌+◌, ◌*◌, ◌/◌, ◌<◌, ◌≤◌, List, [], ◌∷◌, ◌++◌, length, sym, refl, ap, ◌∙◌, arith, length-append, length-set}
+use Rattle.std.proofs.Common.{◌≡◌, ℕ, zero, suc, ◌+◌, ◌*◌, ◌≤◌, List, [], ◌∷◌, length, sym, refl, ap, ◌∙◌, arith, length-append, length-set}
 use lib.Bits.{bit_xor, xor_assoc, xor_self, xor_zero_r}
 use lib.Lanes.{zip2}
 use Rattle.cipher.specs.ChaCha20.{add32, add_word, turn_word, line, quarter_round, column_round, diagonal_round, inner_block, inner_blocks, start_state, word_bytes, serialized, block_of, block, keystream, blocks_for, encrypt}

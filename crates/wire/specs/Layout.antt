@@ -1,6 +1,6 @@
 -- Where the parts of a word stand and how long they are. Assumes nothing.
 use Rattle.std.specs.Prelude.{ℕ, ◌+◌}
-use Rattle.protocol.specs.Limits.{clear_length, field_length, sum_length, seal_length, packet_limit}
+use Rattle.protocol.specs.Limits.{clear_length, field_length, seal_length, packet_limit}
 
 -- where the kind stands, in 1 byte
 abbrev pub kind_at : ℕ

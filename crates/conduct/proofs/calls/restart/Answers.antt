@@ -1,5 +1,6 @@
+use Rattle.std.proofs.Common.{rules}
 use Rattle.conduct.proofs.Followed.{restart_follows}
 use Rattle.conduct.proofs.calls.restart.Goals as goal
 
-pub returns : goal.returns
-returns c = record { after = c.on_restart.ensures; follows = restart_follows _ _ c.on_restart.ensures }
+pub returns-clause-follows : goal.returns-clause-follows
+returns-clause-follows c = search (rules, restart_follows)

@@ -1,4 +1,4 @@
-use Rattle.std.proofs.Common.{◌≡◌, ℕ, ◌-◌, ◌<◌, List, length, take, drop, Some, None, Ok, Err, sym, ◌∙◌, arith, rules}
+use Rattle.std.proofs.Common.{◌≡◌, ℕ, ◌-◌, ◌<◌, List, length, take, drop, Some, None, Ok, sym, ◌∙◌, arith, rules}
 use Rattle.std.proofs.lemmas.List.{length-take, length-drop}
 use Rattle.std.proofs.lemmas.Bool.Decides.{nat_tests}
 use Rattle.addresses.specs.declared.marks.Mark.TheVariants.{LineFeed}
@@ -7,14 +7,8 @@ use Rattle.addresses.proofs.Cutting.{behind_shorter}
 use Rattle.draft.specs.Drafts.{line_taken}
 use Rattle.draft.specs.Reading.{draft_read}
 use Rattle.draft.specs.Words.{words_of}
-use Rattle.draft.proofs.Lines.{line-end, line_bad, line_more, line_last}
+use Rattle.draft.proofs.Lines.{line-end, line_more, line_last}
 use Rattle.draft.proofs.reading.read.Goals as goal
-
-pub returns-in-Err : goal.returns-in-Err
-unfolding draft_read
-returns-in-Err c =
-    let bad : line_taken (words_of (front LineFeed c.loop-rest.rest.now)) c.loop-rest.draft ≡ Err c.in-Err.fault = search rules in
-    sym (sym c.loop-rest.invariant.0 ∙ line_bad c.loop-rest.before c.loop-rest.rest.now c.loop-rest.draft c.in-Err.fault bad)
 
 pub loop-rest-smaller-in-Some : goal.loop-rest-smaller-in-Some
 loop-rest-smaller-in-Some c =

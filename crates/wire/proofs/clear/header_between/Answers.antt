@@ -8,4 +8,4 @@ pub returns : goal.returns
 returns c =
     let right : (eqb (opener_in c.args.word.now) c.args.own && eqb (maker_in c.args.word.now) c.args.peer) ≡ true = grind (arith, nat_tests) in
     c.fields.ensures
-    ∙ sym (header_right c.args.own (λ a. eqb a c.args.peer) c.args.word.now _ (sym c.in-ok-kind.ensures.value) right)
+    ∙ sym (header_right c.args.own (λ a. eqb a c.args.peer) c.args.word.now _ (sym c.in_ok-kind.ensures.value) right)

@@ -6,5 +6,5 @@ pub returns : goal.returns
 unfolding number8
 returns c =
     let long : c.args.at + 8 - c.args.at ≡ 8 = omega arith in
-    c.from-be-bytes.ensures
-    ∙ ap number8 (c.copy-from-slice.ensures.after ∙ ap (λ n. take n (drop c.args.at c.args.bytes.now)) long)
+    c.from_be_bytes.ensures
+    ∙ ap number8 (c.copy_from_slice.ensures.after ∙ ap (λ n. take n (drop c.args.at c.args.bytes.now)) long)

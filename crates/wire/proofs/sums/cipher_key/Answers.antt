@@ -3,4 +3,4 @@ use Rattle.wire.proofs.sums.cipher_key.Goals as goal
 
 pub returns : goal.returns
 unfolding turn_key
-returns c key p = cc (c.code-of.ensures key p)
+returns c key p = cc (c.code_of.ensures key p)

@@ -1,4 +1,4 @@
-use Rattle.std.proofs.Common.{◌≡◌, ℕ, ◌-◌, true, List, length, sym, refl, ap, ◌∙◌, subst, arith}
+use Rattle.std.proofs.Common.{◌≡◌, ℕ, List, sym, ap, ◌∙◌, subst, arith}
 use Rattle.digest.specs.Hashers.{Prepared}
 use Rattle.protocol.specs.Kinds.{kind_byte}
 use Rattle.protocol.specs.declared.kinds.Kind.TheVariants.{Packet}
@@ -15,27 +15,27 @@ turn-kept : (t : TalkKeys) (pair : List ℕ) → TalkHolds t pair
     → t.packet_in ≡ turn_key (talk_key pair t.theirs t.mine) (kind_byte Packet) t.peer t.own
 turn-kept t pair h = h.packet_in ∙ ap (λ k. turn_key k (kind_byte Packet) t.peer t.own) (talk_swap pair t.mine t.theirs)
 
-pub returns-then-not-sum-right : goal.returns-then-not-sum-right
-returns-then-not-sum-right c =
+pub returns-then-not-sum_right : goal.returns-then-not-sum_right
+returns-then-not-sum_right c =
     record {
-      answer = λ pair h. (packet_wrong _ _ _ _ _ _ _ (sym (c.sum-right.ensures _ (hash-kept c.args.self.now pair h)) ∙ c.if-not-sum-right.true)).0;
-      after = λ pair h. (packet_wrong _ _ _ _ _ _ _ (sym (c.sum-right.ensures _ (hash-kept c.args.self.now pair h)) ∙ c.if-not-sum-right.true)).1;
+      answer = λ pair h. (packet_wrong _ _ _ _ _ _ _ (sym (c.sum_right.ensures _ (hash-kept c.args.self.now pair h)) ∙ c.if-not-sum_right.true)).0;
+      after = λ pair h. (packet_wrong _ _ _ _ _ _ _ (sym (c.sum_right.ensures _ (hash-kept c.args.self.now pair h)) ∙ c.if-not-sum_right.true)).1;
     }
 
-pub returns-then-end-gt-MAX-PACKET : goal.returns-then-end-gt-MAX-PACKET
-returns-then-end-gt-MAX-PACKET c =
+pub returns-then-end-gt-MAX_PACKET : goal.returns-then-end-gt-MAX_PACKET
+returns-then-end-gt-MAX_PACKET c =
     record {
-      answer = λ pair h. (packet-long _ _ _ _ _ _ _ c.requires (sym (c.sum-right.ensures _ (hash-kept c.args.self.now pair h)) ∙ c.if-not-sum-right.false) (omega arith)).0;
-      after = λ pair h. (packet-long _ _ _ _ _ _ _ c.requires (sym (c.sum-right.ensures _ (hash-kept c.args.self.now pair h)) ∙ c.if-not-sum-right.false) (omega arith)).1;
+      answer = λ pair h. (packet-long _ _ _ _ _ _ _ c.requires (sym (c.sum_right.ensures _ (hash-kept c.args.self.now pair h)) ∙ c.if-not-sum_right.false) (omega arith)).0;
+      after = λ pair h. (packet-long _ _ _ _ _ _ _ c.requires (sym (c.sum_right.ensures _ (hash-kept c.args.self.now pair h)) ∙ c.if-not-sum_right.false) (omega arith)).1;
     }
 
 pub returns : goal.returns
 returns c =
     record {
       answer = λ pair h.
-          (packet-told _ _ _ _ _ _ _ _ _ _ _ c.requires (sym (c.sum-right.ensures _ (hash-kept c.args.self.now pair h)) ∙ c.if-not-sum-right.false) (omega arith)
-          (turn-kept c.args.self.now pair h) c.number-nonce.ensures c.turn-short.ensures (omega arith)).0;
+          (packet-told _ _ _ _ _ _ _ _ _ _ _ c.requires (sym (c.sum_right.ensures _ (hash-kept c.args.self.now pair h)) ∙ c.if-not-sum_right.false) (omega arith)
+          (turn-kept c.args.self.now pair h) c.number_nonce.ensures c.turn_short.ensures (omega arith)).0;
       after = λ pair h.
-          (packet-told _ _ _ _ _ _ _ _ _ _ _ c.requires (sym (c.sum-right.ensures _ (hash-kept c.args.self.now pair h)) ∙ c.if-not-sum-right.false) (omega arith)
-          (turn-kept c.args.self.now pair h) c.number-nonce.ensures c.turn-short.ensures (omega arith)).1;
+          (packet-told _ _ _ _ _ _ _ _ _ _ _ c.requires (sym (c.sum_right.ensures _ (hash-kept c.args.self.now pair h)) ∙ c.if-not-sum_right.false) (omega arith)
+          (turn-kept c.args.self.now pair h) c.number_nonce.ensures c.turn_short.ensures (omega arith)).1;
     }
