@@ -87,8 +87,8 @@ chain step f s o p a b h =
     (ap (λ g. (step g).memory) e, (λ i. holding (step (e i)) (b i)) ∙ on_top f (step f) o h)
 
 -- An outbox that was emptied holds nothing, and what is written into it is as in the one that it was.
-pub cleared-quiet : (s : Gateway) (o p : Outbox) → p ≡ cleared o → p ≡ holding (quiet s) p
-cleared-quiet s o p e = e ∙ ap (λ x. holding (quiet s) x) (sym e)
+pub cleared_quiet : (s : Gateway) (o p : Outbox) → p ≡ cleared o → p ≡ holding (quiet s) p
+cleared_quiet s o p e = e ∙ ap (λ x. holding (quiet s) x) (sym e)
 
 pub cleared-same : (f : Flow) (o p : Outbox) → p ≡ cleared o → holding f p ≡ holding f o
 cleared-same f o p e = ap (λ x. holding f x) e

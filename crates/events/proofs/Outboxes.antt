@@ -1,7 +1,7 @@
 -- An outbox that holds what a flow says. Assumes nothing.
-use Rattle.std.proofs.Common.{◌≡◌, ℕ, suc, ◌+◌, ◌-◌, ◌<◌, ◌≤◌, Bool, true, false, List, [], ◌∷◌, ◌++◌, length, take, drop, set, Some, None, Option, sym, refl, ap, ◌∙◌, append_assoc, append-nil, add-one, arith}
-use Rattle.std.proofs.lemmas.List.{take-append-drop, length-take-le, take_at, drop-drop, set_split, length_push}
-use Rattle.std.proofs.lemmas.Bool.{true≢false}
+use Rattle.std.proofs.Common.{◌≡◌, ℕ, min, inl, inr, suc, ◌+◌, ◌-◌, ◌<◌, ◌≤◌, Bool, true, false, List, [], ◌∷◌, ◌++◌, length, take, drop, set, Some, None, Option, sym, refl, ap, ◌∙◌, append_assoc, append-nil, add-one, arith}
+use Rattle.std.proofs.lemmas.List.{take_all, take-append-drop, length-take-le, take_at, drop-drop, set_split, length_push}
+use Rattle.std.proofs.lemmas.Bool.{cases_lt, true≢false}
 use Rattle.gateway.specs.declared.state.Gateway.{Gateway}
 use Rattle.gateway.specs.declared.state.Word.{Word}
 use Rattle.events.specs.declared.state.Outbox.{Outbox}
@@ -14,6 +14,14 @@ itself s o h =
     let l : length (take o.count o.words) ≡ o.count = length-take-le o.count o.words h in
     let e : take o.count o.words ++ drop (length (take o.count o.words)) o.words ≡ o.words = ap (λ n. take o.count o.words ++ drop n o.words) l ∙ take-append-drop o.count o.words in
     λ i. record { words = e i; count = l i; used = o.used }
+
+-- no more words can be taken than there are
+pub take_min : (n k : ℕ) (ws : List Word) → k ≡ length ws → take (min n k) ws ≡ take n ws
+take_min n k ws e =
+    elim (cases_lt n k) [
+      | inl h ↦ (let m : min n k ≡ n = omega arith in ap (λ i. take i ws) m)
+      | inr h ↦ take_all (min n k) ws (omega arith) ∙ sym (take_all n ws (omega arith))
+    ]
 
 -- what an outbox holds is what stands in it
 pub flow_of_lem : (f : Flow) (o : Outbox) → flow_of f.memory (holding f o) ≡ f

@@ -35,6 +35,7 @@ fn greet_if(gateway: &mut Gateway, due: bool, to: u8, tags: &[u64], outbox: &mut
 }
 
 /// Says the hellos that are due at a tick, by the other gate's number, while there are tags.
+#[tactic(auto, using(crate::proofs::Flows::cleared_quiet), unfolding(crate::specs::Flow::hellos_below))]
 fn greet_all(gateway: &mut Gateway, tags: &[u64], outbox: &mut Outbox)
     ensures after { gateway.new ≡ (hellos_below tags.now gates_limit (quiet gateway.old)).memory }
     ensures out { outbox.new ≡ holding (hellos_below tags.now gates_limit (quiet gateway.old)) outbox.old }
@@ -59,6 +60,7 @@ fn stay_in(gateway: &mut Gateway, gate: u8, place: usize, outbox: &mut Outbox)
 }
 
 /// Sends the empty ones that are due in the talks with a gate, the latest talk first.
+#[tactic(auto, using(crate::proofs::Outboxes::itself), unfolding(crate::specs::Flow::empties_in))]
 fn stay_with(gateway: &mut Gateway, gate: u8, outbox: &mut Outbox)
     requires { Ready 3 outbox.old }
     ensures after { gateway.new ≡ (empties_in gate talks_limit (flow_of gateway.old outbox.old)).memory }
@@ -70,6 +72,7 @@ fn stay_with(gateway: &mut Gateway, gate: u8, outbox: &mut Outbox)
 }
 
 /// Sends the empty ones that are due, by the other gate's number, and within a gate by talk, the latest first.
+#[tactic(auto, using(crate::proofs::Outboxes::itself), unfolding(crate::specs::Flow::empties_below))]
 fn stay_all(gateway: &mut Gateway, outbox: &mut Outbox)
     requires { Ready 96 outbox.old }
     ensures after { gateway.new ≡ (empties_below gates_limit (flow_of gateway.old outbox.old)).memory }
@@ -96,6 +99,7 @@ fn release_one(gateway: &mut Gateway, to: u8, tags: &[u64], outbox: &mut Outbox)
 }
 
 /// Sends what waits for a gate, oldest first, while there is a talk to send it by.
+#[tactic(auto, using(crate::proofs::Outboxes::itself), unfolding(crate::specs::Flow::drains))]
 fn release_all(gateway: &mut Gateway, to: u8, tags: &[u64], outbox: &mut Outbox)
     requires { Ready 32 outbox.old }
     ensures after { gateway.new ≡ (drains tags.now to queue_limit (flow_of gateway.old outbox.old)).memory }

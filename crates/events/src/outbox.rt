@@ -31,6 +31,7 @@ impl Outbox {
     }
 
     /// The words that go out, the earliest first.
+    #[tactic(auto, using(crate::proofs::Outboxes::take_min))]
     pub fn words(&self) -> &[Word]
         ensures { result.now ≡ take self.now.count self.now.words }
     {

@@ -1,13 +1,9 @@
-use Rattle.std.proofs.Common.{◌≡◌, ◌+◌, sym, refl, ap, ◌∙◌, subst, add-one, arith}
+use Rattle.std.proofs.Common.{◌≡◌, ◌+◌, sym, ap, ◌∙◌, subst, add-one, arith}
 use Rattle.gates.specs.Timer.{Ticks}
 use Rattle.gateway.specs.Steps.{due_at}
 use Rattle.events.specs.Flow.{quiet, holding, greet_if, hellos_below}
-use Rattle.events.proofs.Flows.{Step, greet-step, hellos-step, ready_on, ready_less, turn, cleared-quiet, cleared-same, ready_cleared, cleared_flow}
+use Rattle.events.proofs.Flows.{Step, greet-step, hellos-step, ready_on, ready_less, turn, cleared-same, ready_cleared, cleared_flow}
 use Rattle.events.proofs.calls.greet_all.Goals as goal
-
-pub loop-to-init : goal.loop-to-init
-unfolding hellos_below
-loop-to-init c = (refl, cleared-quiet c.args.gateway.now c.args.outbox.now c.clear.new.self c.clear.ensures.after)
 
 pub greet_if-requires : goal.greet_if-requires
 greet_if-requires c =

@@ -1,12 +1,7 @@
-use Rattle.std.proofs.Common.{◌+◌, ◌*◌, sym, refl, ap, add-one, arith}
+use Rattle.std.proofs.Common.{◌+◌, ◌*◌, sym, ap, add-one, arith}
 use Rattle.events.specs.Flow.{flow_of, releases, drains}
 use Rattle.events.proofs.Flows.{releases-step, drains-step, ready_on, ready_less, turn}
-use Rattle.events.proofs.Outboxes.{itself}
 use Rattle.events.proofs.calls.release_all.Goals as goal
-
-pub loop-init : goal.loop-init
-unfolding drains
-loop-init c = (refl, sym (itself c.args.gateway.now c.args.outbox.now (omega arith)))
 
 pub release_one-requires : goal.release_one-requires
 release_one-requires c =

@@ -1,12 +1,7 @@
-use Rattle.std.proofs.Common.{◌+◌, ◌*◌, sym, refl, ap, add-one, arith}
+use Rattle.std.proofs.Common.{◌+◌, ◌*◌, sym, ap, add-one, arith}
 use Rattle.events.specs.Flow.{flow_of, empties_in, empties_below}
 use Rattle.events.proofs.Flows.{empties_in_step, empties_step, ready_on, ready_less, turn}
-use Rattle.events.proofs.Outboxes.{itself}
 use Rattle.events.proofs.calls.stay_all.Goals as goal
-
-pub loop-gate-init : goal.loop-gate-init
-unfolding empties_below
-loop-gate-init c = (refl, sym (itself c.args.gateway.now c.args.outbox.now (omega arith)))
 
 pub stay_with-requires : goal.stay_with-requires
 stay_with-requires c =

@@ -1,13 +1,8 @@
-use Rattle.std.proofs.Common.{◌+◌, sym, refl, ap, add-one, arith}
+use Rattle.std.proofs.Common.{◌+◌, sym, ap, add-one, arith}
 use Rattle.events.specs.Flow.{flow_of, stays, empties_in}
 use Rattle.gateway.specs.Steps.{stay, stay_after}
 use Rattle.events.proofs.Flows.{emits-step, empties_in_step, ready_on, ready_less, turn}
-use Rattle.events.proofs.Outboxes.{itself}
 use Rattle.events.proofs.calls.stay_with.Goals as goal
-
-pub loop-place-init : goal.loop-place-init
-unfolding empties_in
-loop-place-init c = (refl, sym (itself c.args.gateway.now c.args.outbox.now (omega arith)))
 
 pub stay_in-requires : goal.stay_in-requires
 stay_in-requires c =
