@@ -5,8 +5,8 @@
 .PHONY: demo test bench
 
 demo:
-	cd crates/plan && rt run -- check ../../examples/first/settings
-	cd crates/gate && rt run -- ../../examples/first/settings < /dev/null
+	cd crates/plan && rt run -- check ../../examples/first/settings > /dev/null
+	cd crates/gate && rt run -- ../../examples/first/settings < /dev/null > /dev/null
 	@echo "plan show examples/first/settings says:"
 	@crates/plan/out/plan show examples/first/settings
 	@echo "gate examples/first/settings, with this input:"
