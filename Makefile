@@ -1,5 +1,5 @@
 # demo: proves and builds the programs `plan` and `gate`, and runs them on small examples
-# test: proves and tests everything, from nothing
+# test: proves and tests everything, but for proofs of the same files that it passed on this machine before
 # bench: times the seals beside OpenSSL and plain C
 
 .PHONY: demo test bench
