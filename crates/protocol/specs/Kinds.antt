@@ -1,5 +1,5 @@
 -- The kinds of words, their bytes and lengths, and which bytes are a word of which kind. Assumes nothing.
-use Rattle.std.specs.Prelude.{◌≡◌, ℕ, Bool, true, cond, ◌&&◌, List, length, Ok, Err, Result, ◌==◌, nat_le, slice_index}
+use Rattle.std.specs.Prelude.{◌≡◌, ◌≢◌, ℕ, Bool, true, cond, ◌&&◌, List, length, Ok, Err, Result, MatchResult, ◌==◌, nat_le, slice_index}
 use Rattle.protocol.specs.declared.kinds.Kind.{Kind}
 use Rattle.protocol.specs.declared.kinds.Kind.TheVariants.{Hello, Reply, Packet, Empty}
 use Rattle.protocol.specs.declared.refusals.Refusal.{Refusal}
@@ -12,6 +12,15 @@ kind_byte Hello = 1
 kind_byte Reply = 2
 kind_byte Packet = 3
 kind_byte Empty = 4
+
+-- a byte is that of a kind
+abbrev pub HasByte : Kind → ℕ → Type 0
+HasByte k byte = byte ≡ kind_byte k
+
+-- what is found of a byte: the kind that has it, or the refusal of a byte that no kind has
+abbrev pub IsKindOf : ℕ → Result Kind Refusal → Type 0
+IsKindOf byte found =
+    MatchResult found (λ k. kind_byte k ≡ byte) (λ e. (e ≡ UnknownWord) × ((k : Kind) → kind_byte k ≢ byte))
 
 -- whether a word of a kind can have this length
 abbrev pub length_fits : Kind → ℕ → Bool

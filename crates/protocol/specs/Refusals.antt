@@ -1,8 +1,9 @@
 -- The numbers of the refusals, and their sentences for people. Every promise that speaks of a refusal's
 -- number uses this definition.
 -- Assumes nothing.
-use Rattle.std.specs.Prelude.{ℕ, List, codes}
+use Rattle.std.specs.Prelude.{◌≡◌, ◌≢◌, ℕ, ◌-◌, ◌≤◌, List, length, Some, Result, MatchResult, codes, slice_get}
 use Rattle.protocol.specs.declared.refusals.Refusal.{Refusal}
+use Rattle.protocol.specs.declared.refusals.UnknownNumber.{UnknownNumber}
 use Rattle.protocol.specs.declared.refusals.Refusal.TheVariants.{UnknownWord, WrongGate, WrongSum, ZeroTag, OldHello, UnaskedReply, NoTalk, BelowWindow, RepeatedNumber, BadPacket, ForeignAddress, NoRoute, QueueFull, NoDrawnBytes, BadSettings}
 
 -- the number of a refusal, from 1 to 15
@@ -22,6 +23,20 @@ refusal_number NoRoute = 12
 refusal_number QueueFull = 13
 refusal_number NoDrawnBytes = 14
 refusal_number BadSettings = 15
+
+-- a number is that of a refusal, and one from 1 to 15
+abbrev pub HasNumber : Refusal → ℕ → Type 0
+HasNumber x n = (n ≡ refusal_number x) × (1 ≤ n) × (n ≤ 15)
+
+-- what is found of a number: the refusal that has it, or the number that no refusal has
+abbrev pub IsRefusalOf : ℕ → Result Refusal UnknownNumber → Type 0
+IsRefusalOf n found =
+    MatchResult found (λ x. refusal_number x ≡ n) (λ e. (e.0 ≡ n) × ((x : Refusal) → refusal_number x ≢ n))
+
+-- each refusal stands in a list of all, in the order of the numbers from 1, and nothing else does
+pub record AllAreThere (all : List Refusal) : Type 0 where
+  pub fifteen : length all ≡ 15
+  pub each : (x : Refusal) → slice_get all (refusal_number x - 1) ≡ Some x
 
 -- the sentence of a refusal, in ASCII
 abbrev pub refusal_sentence : Refusal → List ℕ

@@ -2,7 +2,7 @@
 ghost use Rattle.std.specs.Prelude.{◌≡◌, MatchOption, MatchResult, ◌≢◌};
 ghost use Rattle.protocol.specs.declared.kinds.Kind.{Kind as Sort};
 ghost use Rattle.protocol.specs.declared.refusals.Refusal.TheVariants.{UnknownWord};
-ghost use Rattle.protocol.specs.Kinds.{kind_byte, length_fits, kind_of, IsWord};
+ghost use Rattle.protocol.specs.Kinds.{kind_byte, length_fits, kind_of, IsWord, HasByte, IsKindOf};
 
 use crate::limits::{HANDSHAKE, SEALED};
 use crate::refusals::Refusal;
@@ -11,13 +11,13 @@ use crate::refusals::Refusal;
 #[derive(Clone, Copy, Debug, PartialEq, Eq)]
 pub enum Kind {
     /// The first word of a handshake: a tag and the maker's tick.
-    Hello,
+    Hello = 1,
     /// The answer to a hello: a tag and the tag that it replies to.
-    Reply,
+    Reply = 2,
     /// A packet from inside, sealed in a talk.
-    Packet,
+    Packet = 3,
     /// A keepalive: sealed in a talk like a packet, with nothing inside.
-    Empty,
+    Empty = 4,
 }
 
 impl Kind {
@@ -25,25 +25,14 @@ impl Kind {
     pub fn byte(self) -> u8
         ensures { result ≡ kind_byte self }
     {
-        match self {
-            Kind::Hello => 1,
-            Kind::Reply => 2,
-            Kind::Packet => 3,
-            Kind::Empty => 4,
-        }
+        u8::from(self)
     }
 
     /// The kind with this byte, or none where no kind has it.
     pub fn of_byte(byte: u8) -> Option<Kind>
         ensures { MatchOption result ((k : Sort) → kind_byte k ≢ byte) (λ k. kind_byte k ≡ byte) }
     {
-        match byte {
-            1 => Some(Kind::Hello),
-            2 => Some(Kind::Reply),
-            3 => Some(Kind::Packet),
-            4 => Some(Kind::Empty),
-            _ => None,
-        }
+        Kind::try_from(byte).ok()
     }
 
     /// Whether a word of this kind can have this length. It changes nothing and never refuses.
@@ -58,6 +47,32 @@ impl Kind {
     }
 }
 
+/// The byte with which words of this kind begin.
+impl From<Kind> for u8 {
+    ghost from_gives = { HasByte };
+
+    fn from(kind: Kind) -> u8 {
+        kind as u8
+    }
+}
+
+/// The kind with this byte; a byte that no kind has is refused as an unknown word's.
+impl TryFrom<u8> for Kind {
+    type Error = Refusal;
+
+    ghost try_from_gives = { IsKindOf };
+
+    fn try_from(byte: u8) -> Result<Kind, Refusal> {
+        match byte {
+            1 => Ok(Kind::Hello),
+            2 => Ok(Kind::Reply),
+            3 => Ok(Kind::Packet),
+            4 => Ok(Kind::Empty),
+            _ => Err(Refusal::UnknownWord),
+        }
+    }
+}
+
 /// The kind of the word with these bytes, by its first byte and its length. Refuses all other
 /// bytes, none at all too, as an unknown word. It changes nothing.
 #[tactic(auto, using(crate::proofs::Words::finding))]
@@ -68,9 +83,7 @@ pub fn kind_of(word: &[u8]) -> Result<Kind, Refusal>
     let [first, ..] = word else {
         return Err(Refusal::UnknownWord);
     };
-    let Some(kind) = Kind::of_byte(*first) else {
-        return Err(Refusal::UnknownWord);
-    };
+    let kind = Kind::try_from(*first)?;
     if !kind.has_length(word.len()) {
         return Err(Refusal::UnknownWord);
     }

@@ -9,4 +9,4 @@ mod refusals;
 
 pub use counting::Counts;
 pub use kinds::{Kind, kind_of};
-pub use refusals::Refusal;
+pub use refusals::{Refusal, UnknownNumber, all_stated};

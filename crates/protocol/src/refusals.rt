@@ -1,91 +1,84 @@
 // Why something is refused: fifteen causes, each with its number and a sentence for people, in the
 // order of their numbers. Assumes nothing.
-ghost use Rattle.std.specs.Prelude.{◌≡◌, ◌≤◌, MatchOption, ◌≢◌};
+ghost use Rattle.std.specs.Prelude.{◌≡◌, ◌≤◌, Some, MatchOption, ◌≢◌};
 ghost use Rattle.protocol.specs.declared.refusals.Refusal.{Refusal as Cause};
-ghost use Rattle.protocol.specs.Refusals.{refusal_number, refusal_sentence};
+ghost use Rattle.protocol.specs.Refusals.{refusal_number, refusal_sentence, HasNumber, IsRefusalOf, AllAreThere};
+
+use std::error::Error;
+use std::fmt;
 
 /// The cause of a refusal. What is refused changes nothing and is answered by nothing.
 #[derive(Clone, Copy, Debug, PartialEq, Eq)]
 pub enum Refusal {
     /// A word whose first byte is no kind, or whose length doesn't fit its kind.
-    UnknownWord,
+    UnknownWord = 1,
     /// A word by or for a gate that isn't there, for another gate, or by this one.
-    WrongGate,
+    WrongGate = 2,
     /// A word whose authentication sum isn't right.
-    WrongSum,
+    WrongSum = 3,
     /// A tag of 0, which no talk has.
-    ZeroTag,
+    ZeroTag = 4,
     /// A hello whose tick isn't above that of the last one taken from its gate: a replay.
-    OldHello,
+    OldHello = 5,
     /// A reply to no hello of this gate that still waits for one.
-    UnaskedReply,
+    UnaskedReply = 6,
     /// No such talk (session), or one that is over.
-    NoTalk,
+    NoTalk = 7,
     /// A number of 0, or one that the replay window has passed.
-    BelowWindow,
+    BelowWindow = 8,
     /// A number that came before: a replay.
-    RepeatedNumber,
+    RepeatedNumber = 9,
     /// Bytes that aren't one whole IPv4 packet that may pass.
-    BadPacket,
+    BadPacket = 10,
     /// An address that isn't owned by the gate that must own it.
-    ForeignAddress,
+    ForeignAddress = 11,
     /// A destination that no other gate owns.
-    NoRoute,
+    NoRoute = 12,
     /// The queue of packets that wait for a talk is full.
-    QueueFull,
+    QueueFull = 13,
     /// Too few drawn (random) bytes are left.
-    NoDrawnBytes,
+    NoDrawnBytes = 14,
     /// Settings that are damaged or out of range.
-    BadSettings,
+    BadSettings = 15,
 }
 
+/// A number that no refusal has.
+#[derive(Clone, Copy, Debug, PartialEq, Eq)]
+pub struct UnknownNumber(pub u8);
+
 impl Refusal {
+    /// All refusals, in the order of their numbers.
+    pub const ALL: [Refusal; 15] = [
+        Refusal::UnknownWord,
+        Refusal::WrongGate,
+        Refusal::WrongSum,
+        Refusal::ZeroTag,
+        Refusal::OldHello,
+        Refusal::UnaskedReply,
+        Refusal::NoTalk,
+        Refusal::BelowWindow,
+        Refusal::RepeatedNumber,
+        Refusal::BadPacket,
+        Refusal::ForeignAddress,
+        Refusal::NoRoute,
+        Refusal::QueueFull,
+        Refusal::NoDrawnBytes,
+        Refusal::BadSettings,
+    ];
+
     /// The refusal's number, from 1 to 15. It changes nothing and never refuses.
     pub fn number(self) -> u8
         ensures value { result ≡ refusal_number self }
         ensures range { (1 ≤ result) × (result ≤ 15) }
     {
-        match self {
-            Refusal::UnknownWord => 1,
-            Refusal::WrongGate => 2,
-            Refusal::WrongSum => 3,
-            Refusal::ZeroTag => 4,
-            Refusal::OldHello => 5,
-            Refusal::UnaskedReply => 6,
-            Refusal::NoTalk => 7,
-            Refusal::BelowWindow => 8,
-            Refusal::RepeatedNumber => 9,
-            Refusal::BadPacket => 10,
-            Refusal::ForeignAddress => 11,
-            Refusal::NoRoute => 12,
-            Refusal::QueueFull => 13,
-            Refusal::NoDrawnBytes => 14,
-            Refusal::BadSettings => 15,
-        }
+        u8::from(self)
     }
 
     /// The refusal with this number, or none where no refusal has it.
     pub fn from_number(number: u8) -> Option<Refusal>
         ensures { MatchOption result ((x : Cause) → refusal_number x ≢ number) (λ x. refusal_number x ≡ number) }
     {
-        match number {
-            1 => Some(Refusal::UnknownWord),
-            2 => Some(Refusal::WrongGate),
-            3 => Some(Refusal::WrongSum),
-            4 => Some(Refusal::ZeroTag),
-            5 => Some(Refusal::OldHello),
-            6 => Some(Refusal::UnaskedReply),
-            7 => Some(Refusal::NoTalk),
-            8 => Some(Refusal::BelowWindow),
-            9 => Some(Refusal::RepeatedNumber),
-            10 => Some(Refusal::BadPacket),
-            11 => Some(Refusal::ForeignAddress),
-            12 => Some(Refusal::NoRoute),
-            13 => Some(Refusal::QueueFull),
-            14 => Some(Refusal::NoDrawnBytes),
-            15 => Some(Refusal::BadSettings),
-            _ => None,
-        }
+        Refusal::try_from(number).ok()
     }
 
     /// The refusal in a sentence for people. It changes nothing and never refuses.
@@ -113,3 +106,64 @@ impl Refusal {
         }
     }
 }
+
+/// The refusal's number, from 1 to 15.
+impl From<Refusal> for u8 {
+    ghost from_gives = { HasNumber };
+
+    fn from(refusal: Refusal) -> u8 {
+        refusal as u8
+    }
+}
+
+/// The refusal with this number, if one has it.
+impl TryFrom<u8> for Refusal {
+    type Error = UnknownNumber;
+
+    ghost try_from_gives = { IsRefusalOf };
+
+    fn try_from(number: u8) -> Result<Refusal, UnknownNumber> {
+        match number {
+            1 => Ok(Refusal::UnknownWord),
+            2 => Ok(Refusal::WrongGate),
+            3 => Ok(Refusal::WrongSum),
+            4 => Ok(Refusal::ZeroTag),
+            5 => Ok(Refusal::OldHello),
+            6 => Ok(Refusal::UnaskedReply),
+            7 => Ok(Refusal::NoTalk),
+            8 => Ok(Refusal::BelowWindow),
+            9 => Ok(Refusal::RepeatedNumber),
+            10 => Ok(Refusal::BadPacket),
+            11 => Ok(Refusal::ForeignAddress),
+            12 => Ok(Refusal::NoRoute),
+            13 => Ok(Refusal::QueueFull),
+            14 => Ok(Refusal::NoDrawnBytes),
+            15 => Ok(Refusal::BadSettings),
+            _ => Err(UnknownNumber(number)),
+        }
+    }
+}
+
+/// The refusal in a sentence for people.
+impl fmt::Display for Refusal {
+    ghost output = { λ x. Some (refusal_sentence x) };
+
+    fn fmt<W: fmt::Write>(&self, f: &mut fmt::Formatter<W>) -> fmt::Result {
+        f.write_str(self.sentence())
+    }
+}
+
+impl Error for Refusal {}
+
+impl fmt::Display for UnknownNumber {
+    fn fmt<W: fmt::Write>(&self, f: &mut fmt::Formatter<W>) -> fmt::Result {
+        write!(f, "no refusal has the number {}", self.0)
+    }
+}
+
+impl Error for UnknownNumber {}
+
+/// States that each refusal stands among all, at its number. It does nothing.
+pub fn all_stated()
+    ensures { AllAreThere Refusal.ALL }
+{}
