@@ -1,8 +1,7 @@
 -- A function of two lists that is written over the first of them, place by place, and words that are written as bytes.
-use Rattle.std.proofs.Common.{◌≡◌, ℕ, zero, suc, ◌+◌, ◌-◌, ◌<◌, ◌≤◌, min, List, [], ◌∷◌, ◌++◌, length, get_or, take, drop, set, sym, refl, ap, ◌∙◌, ap₂, ⊎_elim, append_assoc, le_of_suc-le-suc, not-suc-le-zero, arith, length-append, length-drop, take-add}
+use Rattle.std.proofs.Common.{◌≡◌, ℕ, zero, suc, ◌+◌, ◌<◌, ◌≤◌, min, List, [], ◌∷◌, ◌++◌, length, get_or, take, drop, set, sym, refl, ap, ◌∙◌, ap₂, ⊎_elim, append_assoc, le_of_suc-le-suc, not-suc-le-zero, arith, length-append}
 use lib.Lanes.{zip2}
 use borrow.Rule.Slice.PartMut.{put_mid}
-use Rattle.std.proofs.lemmas.Simd.{length-zip2}
 use Rattle.std.proofs.lemmas.Bool.{cases_lt}
 use Rattle.std.proofs.lemmas.List.{append-nil, take_at, drop_at, drop-drop, take_all, drop_all, length-take-le}
 
@@ -77,35 +76,10 @@ zip2_past f (x ∷ xs) [] zs h = absurd (not-suc-le-zero h)
 zip2_past f (x ∷ xs) (y ∷ ys) zs h = ap (λ ws. f x y ∷ ws) (zip2_past f xs ys zs (le_of_suc-le-suc h))
 
 -- a piece that ends where the list does, or w places on
-piece : {A : Type 0} (xs : List A) (w n : ℕ) → n ≡ min w (length xs) → (take n xs ≡ take w xs) × (drop n xs ≡ drop w xs)
+pub piece : {A : Type 0} (xs : List A) (w n : ℕ) → n ≡ min w (length xs) → (take n xs ≡ take w xs) × (drop n xs ≡ drop w xs)
 piece xs w n e =
     ⊎_elim
     (λ (h : w < length xs). let same : n ≡ w = omega arith in (ap (λ m. take m xs) same, ap (λ m. drop m xs) same))
     (λ (h : length xs ≤ w). let all : n ≡ length xs = omega arith in
     (take_all n xs (omega arith) ∙ sym (take_all w xs h), drop_all n xs (omega arith) ∙ sym (drop_all w xs h)))
     (cases_lt w (length xs))
-
--- a text is turned from i on by a piece of the stream that has w bytes, or what is left of the text if that is less
-pub turned_more : {A B : Type 0} (f : A → B → A) (old : List A) (ys stream : List B) (i e w : ℕ) → length ys ≡ i → i ≤ length old → e ≡ min (i + w) (length old)
-    → put_mid i (e - i) (zip2 f (take i old) ys ++ drop i old) (zip2 f (take (e - i) (drop i (zip2 f (take i old) ys ++ drop i old))) stream)
-    ≡ zip2 f (take (i + w) old) (ys ++ stream) ++ drop (i + w) old
-turned_more f old ys stream i e w hy hi he =
-    let ht : length (take i old) ≡ i = length-take-le i old hi in
-    let hf : length (zip2 f (take i old) ys) ≡ i = length-zip2 f (take i old) ys (ht ∙ sym hy) ∙ ht in
-    let back : drop i (zip2 f (take i old) ys ++ drop i old) ≡ drop i old = drop_at (zip2 f (take i old) ys) (drop i old) i hf in
-    let hl : length (drop i old) ≡ length old - i = length-drop i old in
-    let cut : (take (e - i) (drop i old) ≡ take w (drop i old)) × (drop (e - i) (drop i old) ≡ drop w (drop i old)) = piece (drop i old) w (e - i) (omega arith) in
-    ap (λ r. put_mid i (e - i) (zip2 f (take i old) ys ++ drop i old) (zip2 f (take (e - i) r) stream)) back
-    ∙ put_next i (e - i) (zip2 f (take i old) ys) (drop i old) (zip2 f (take (e - i) (drop i old)) stream) hf
-    ∙ ap₂ (λ p q. zip2 f (take i old) ys ++ (zip2 f p stream ++ q)) cut.0 (cut.1 ∙ drop-drop w i old)
-    ∙ sym (append_assoc (zip2 f (take i old) ys) (zip2 f (take w (drop i old)) stream) (drop (i + w) old))
-    ∙ ap (λ r. r ++ drop (i + w) old)
-    (sym (zip2-append f (take i old) (take w (drop i old)) ys stream (ht ∙ sym hy)) ∙ ap (λ r. zip2 f r (ys ++ stream)) (sym (take-add i w old)))
-
--- the whole text is turned
-pub turned_all : {A B : Type 0} (f : A → B → A) (old : List A) (ys zs : List B) (i : ℕ) → length old ≤ i → length old ≤ length ys
-    → zip2 f (take i old) (ys ++ zs) ++ drop i old ≡ zip2 f old ys
-turned_all f old ys zs i h k =
-    let all : take i old ≡ old = take_all i old h in
-    let none : drop i old ≡ [] = drop_all i old h in
-    ap₂ (λ p q. zip2 f p (ys ++ zs) ++ q) all none ∙ append-nil (zip2 f old (ys ++ zs)) ∙ zip2_past f old ys zs k

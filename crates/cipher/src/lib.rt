@@ -9,4 +9,4 @@ mod texts;
 
 pub use fault::Fault;
 pub use scalar::block;
-pub use texts::{turn, turn_scalar};
+pub use texts::{ChaCha20, Form, Lanes, Scalar, turn, turn_scalar};

@@ -2,7 +2,7 @@
 ghost use Rattle.std.specs.Prelude.{◌≡◌, ◌+◌, ◌*◌, ◌<◌, length};
 ghost use Rattle.std.specs.Simd.Lanes.{zip2};
 ghost use borrow.Rule.Slice.PartMut.{put_mid};
-ghost use Rattle.cipher.specs.ChaCha20.{add32, add_word, turn_word, line, quarter_round, column_round, diagonal_round, inner_blocks, word_at, start_state, word_bytes, serialized, block as Block-of};
+ghost use Rattle.cipher.specs.ChaCha20.{add32, add_word, turn_word, line, quarter_round, column_round, diagonal_round, inner_blocks, word_at, start_state, word_bytes, serialized, block_of, block as Block-of};
 
 // `a += b` on the words at places a and b.
 fn add_word(s: &mut [u32; 16], a: usize, b: usize)
@@ -136,13 +136,19 @@ fn serialize(words: &[u32; 16]) -> [u8; 64]
     out
 }
 
+// The block of a start state: the state after twenty rounds, added to the start state, as bytes.
+pub(crate) fn block_bytes(start: &[u32; 16]) -> [u8; 64]
+    ensures { result ≡ block_of start.now }
+{
+    let mut s = *start;
+    rounds(&mut s);
+    add_words(&mut s, start);
+    serialize(&s)
+}
+
 /// The block of a key, a block counter and a nonce (RFC 8439, 2.3): 64 bytes. It is never refused.
 pub fn block(key: &[u8; 32], counter: u32, nonce: &[u8; 12]) -> [u8; 64]
     ensures { result ≡ Block-of key.now counter nonce.now }
 {
-    let start = start_state(key, counter, nonce);
-    let mut s = start;
-    rounds(&mut s);
-    add_words(&mut s, &start);
-    serialize(&s)
+    block_bytes(&start_state(key, counter, nonce))
 }

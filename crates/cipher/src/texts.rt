@@ -1,14 +1,56 @@
 // Turning a text in place: each byte xor the byte of the key stream at its place.
-ghost use Rattle.std.specs.Prelude.{◌≡◌, ◌+◌, ◌%◌, ◌^◌, ◌<◌, ◌≤◌, length, is_ok, if◌then◌else◌, bit_xor};
+ghost use Rattle.std.specs.Prelude.{◌≡◌, ◌+◌, ◌*◌, ◌/◌, ◌%◌, ◌<◌, ◌≤◌, length, is_ok, if◌then◌else◌, bit_xor};
 ghost use Rattle.std.specs.Simd.Lanes.{zip2};
-ghost use Rattle.cipher.specs.ChaCha20.{encrypt};
+ghost use Rattle.std.proofs.Common.{rules};
+ghost use Rattle.cipher.specs.ChaCha20.{block as Block-of, keystream, encrypt};
 ghost use Rattle.cipher.specs.Texts.{answer};
 
 use crate::fault::Fault;
 use crate::lanes::five_blocks;
-use crate::scalar::{block, start_state};
+use crate::scalar::{block_bytes, start_state};
 
 const LONGEST: usize = 65536;
+
+const BLOCK: usize = 64;
+
+/// A key and a nonce: they say what the key stream is.
+#[derive(Clone, Copy)]
+pub struct ChaCha20 {
+    pub key: [u8; 32],
+    pub nonce: [u8; 12],
+}
+
+/// How the key stream is made: N bytes of it at once.
+pub trait Form<const N: usize> {
+    /// The key stream from the block with this counter on.
+    fn stream(cipher: &ChaCha20, counter: u32) -> [u8; N]
+        ensures { result ≡ keystream cipher.now.key counter cipher.now.nonce (N / 64) };
+
+    // The stream is some whole blocks, and no more than the longest text takes.
+    ghost whole_blocks: { (0 < N) × ((N ≤ 65536) × (N % 64 ≡ 0)) };
+}
+
+/// One block at a time.
+pub struct Scalar;
+
+/// Five blocks at a time, four of them by lanes.
+pub struct Lanes;
+
+impl Form<64> for Scalar {
+    ghost whole_blocks = { Prim.search rules };
+
+    fn stream(cipher: &ChaCha20, counter: u32) -> [u8; 64] {
+        cipher.block(counter)
+    }
+}
+
+impl Form<320> for Lanes {
+    ghost whole_blocks = { Prim.search rules };
+
+    fn stream(cipher: &ChaCha20, counter: u32) -> [u8; 320] {
+        five_blocks(&start_state(&cipher.key, counter, &cipher.nonce), counter)
+    }
+}
 
 // Whether a text of `len` bytes can be turned from a counter on.
 fn allowed(len: usize, counter: u32) -> Result<(), Fault>
@@ -24,69 +66,76 @@ fn allowed(len: usize, counter: u32) -> Result<(), Fault>
     Ok(())
 }
 
-// The block counter some blocks on, which wraps as a 32-bit number does.
-fn counter_at(counter: u32, blocks: usize) -> u32
-    requires { blocks < 2 ^ 32 }
-    ensures { result ≡ (counter + blocks) % 2 ^ 32 }
-{
-    counter.wrapping_add(blocks as u32)
-}
-
 // Each byte of a part xor the byte of the stream at its place.
 fn xor_onto(part: &mut [u8], stream: &[u8])
     requires { length part.old ≤ length stream.now }
     ensures { part.new ≡ zip2 bit_xor part.old stream.now }
 {
-    for i in 0..part.len() {
-        part[i] ^= stream[i];
+    for (i, byte) in part.iter_mut().enumerate() {
+        *byte ^= stream[i];
     }
 }
 
-// Turns a text from a counter on, five blocks at a time, and a last one alone.
-fn turn_lanes(key: &[u8; 32], counter: u32, nonce: &[u8; 12], text: &mut [u8])
-    requires { length text.old ≤ 65536 }
-    ensures { text.new ≡ encrypt key.now counter nonce.now text.old }
-{
-    let state = start_state(key, counter, nonce);
-    let len = text.len();
-    let fives = (len + 255) / 320;
-    for j in 0..fives {
-        let from = 320 * j;
-        let to = (from + 320).min(len);
-        let stream = five_blocks(&state, counter_at(counter, 5 * j));
-        xor_onto(&mut text[from..to], &stream);
+impl ChaCha20 {
+    /// The block with this counter (RFC 8439, 2.3): 64 bytes. It is never refused.
+    pub fn block(&self, counter: u32) -> [u8; 64]
+        ensures { result ≡ Block-of self.now.key counter self.now.nonce }
+    {
+        block_bytes(&start_state(&self.key, counter, &self.nonce))
     }
-    let rest = 320 * fives;
-    if rest < len {
-        let stream = block(key, counter_at(counter, 5 * fives), nonce);
-        xor_onto(&mut text[rest..len], &stream);
+
+    /// Turns a text in place: what was plain is encrypted, and what was encrypted is plain (RFC
+    /// 8439, 2.4), from a block counter on. A text longer than 65,536 bytes is refused, and so is
+    /// one that would run over the 32-bit counter; a refusal leaves the text as it is. Every form
+    /// gives the same.
+    pub fn turn<const N: usize, F: Form<N>>(
+        &self,
+        counter: u32,
+        text: &mut [u8],
+    ) -> Result<(), Fault>
+        ensures answer { result ≡ answer counter (length text.old) }
+        ensures after { text.new ≡ (if is_ok result then encrypt self.now.key counter self.now.nonce text.old else text.old) }
+    {
+        allowed(text.len(), counter)?;
+        self.turn_parts::<N, F>(counter, text);
+        Ok(())
+    }
+
+    // Turns a text from a counter on, as many bytes at a time as the form makes.
+    fn turn_parts<const N: usize, F: Form<N>>(&self, counter: u32, text: &mut [u8])
+        requires { length text.old ≤ 65536 }
+        ensures { text.new ≡ encrypt self.now.key counter self.now.nonce text.old }
+    {
+        for from in (0..text.len()).step_by(N) {
+            let to = (from + N).min(text.len());
+            let at = counter.wrapping_add((from / BLOCK) as u32);
+            self.turn_part::<N, F>(at, &mut text[from..to]);
+        }
+    }
+
+    // Turns a part of a text; one that a block is long enough for takes no more.
+    fn turn_part<const N: usize, F: Form<N>>(&self, counter: u32, part: &mut [u8])
+        requires { length part.old ≤ N }
+        ensures { part.new ≡ encrypt self.now.key counter self.now.nonce part.old }
+    {
+        if part.len() <= BLOCK {
+            xor_onto(part, &self.block(counter));
+        } else {
+            xor_onto(part, &F::stream(self, counter));
+        }
     }
 }
 
-// Turns a text from a counter on, block by block.
-fn turn_blocks(key: &[u8; 32], counter: u32, nonce: &[u8; 12], text: &mut [u8])
-    requires { length text.old ≤ 65536 }
-    ensures { text.new ≡ encrypt key.now counter nonce.now text.old }
-{
-    let len = text.len();
-    for j in 0..(len + 63) / 64 {
-        let from = 64 * j;
-        let to = (from + 64).min(len);
-        let stream = block(key, counter_at(counter, j), nonce);
-        xor_onto(&mut text[from..to], &stream);
-    }
-}
-
-/// Turns a text in place: what was plain is encrypted, and what was encrypted is plain (RFC 8439,
-/// 2.4), from a block counter on. A text longer than 65,536 bytes is refused, and so is one that
-/// would run over the 32-bit counter; a refusal leaves the text as it is.
+/// Turns a text in place, by lanes, as `ChaCha20` does.
 pub fn turn(key: &[u8; 32], counter: u32, nonce: &[u8; 12], text: &mut [u8]) -> Result<(), Fault>
     ensures answer { result ≡ answer counter (length text.old) }
     ensures after { text.new ≡ (if is_ok result then encrypt key.now counter nonce.now text.old else text.old) }
 {
-    allowed(text.len(), counter)?;
-    turn_lanes(key, counter, nonce, text);
-    Ok(())
+    ChaCha20 {
+        key: *key,
+        nonce: *nonce,
+    }
+    .turn::<_, Lanes>(counter, text)
 }
 
 /// The same as `turn`, in scalar form.
@@ -99,7 +148,9 @@ pub fn turn_scalar(
     ensures answer { result ≡ answer counter (length text.old) }
     ensures after { text.new ≡ (if is_ok result then encrypt key.now counter nonce.now text.old else text.old) }
 {
-    allowed(text.len(), counter)?;
-    turn_blocks(key, counter, nonce, text);
-    Ok(())
+    ChaCha20 {
+        key: *key,
+        nonce: *nonce,
+    }
+    .turn::<_, Scalar>(counter, text)
 }

@@ -1,6 +1,6 @@
-use Rattle.cipher.specs.ChaCha20.{block, block_of}
+use Rattle.cipher.specs.ChaCha20.{block}
 use Rattle.cipher.proofs.scalar.block.Goals as goal
 
 pub returns : goal.returns
-unfolding block block_of
+unfolding block
 returns c = cc
