@@ -1,3 +1,5 @@
 mod Digits
 mod Blanks
 mod Written
+mod Pairs
+mod Found

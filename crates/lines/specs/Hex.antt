@@ -1,8 +1,10 @@
 -- Bytes as hex digits, and what hex digits stand for. Assumes nothing.
-use Rattle.std.specs.Prelude.{◌≡◌, ℕ, ◌+◌, ◌-◌, ◌*◌, ◌/◌, ◌%◌, ◌<◌, Bool, cond, ◌&&◌, ◌⊎◌, List, [], ◌∷◌, ◌++◌, Some, None, Ok, Err, vec_items, Option, Result, Vec, nat_le, nat_lt}
+use Rattle.std.specs.Prelude.{◌≡◌, ℕ, ◌+◌, ◌-◌, ◌*◌, ◌/◌, ◌%◌, ◌<◌, Bool, cond, ◌&&◌, ◌⊎◌, List, [], ◌∷◌, ◌++◌, Some, None, Ok, Err, vec_items, Option, Result, Vec, nat_le, nat_lt, length, drop, slice_index, slice_index_or}
 use Rattle.std.specs.declared.alloc.Global.{Global}
 use Rattle.std.specs.List.{AllByRecursion}
+use Rattle.std.specs.Borrow.{Bor}
 use Rattle.lines.specs.declared.faults.LineFault.{LineFault}
+use Rattle.lines.specs.declared.faults.NoHex.{NoHex}
 use Rattle.lines.specs.declared.faults.LineFault.TheVariants.{NotHex, OddHex, NoMemory}
 
 -- whether a byte lies between two others, both included
@@ -45,10 +47,28 @@ decoded column [] = Ok []
 decoded column (x ∷ []) = single column (digit_value x)
 decoded column (x ∷ y ∷ rest) = with_pair column (digit_value x) (digit_value y) (decoded (column + 2) rest)
 
+-- what stands on a line from a place on is cut into pairs, and a last one that has no second
+pub record IsCut (line : List ℕ) (start : ℕ) (pairs : List (List ℕ)) (single : List ℕ) : Type 0 where
+  pub inside : (i : ℕ) → i < length pairs → start + 2 * i + 1 < length line
+  pub first : (i : ℕ) → i < length pairs → slice_index (slice_index_or pairs i []) 0 ≡ slice_index line (start + 2 * i)
+  pub second : (i : ℕ) → i < length pairs → slice_index (slice_index_or pairs i []) 1 ≡ slice_index line (start + 2 * i + 1)
+  pub rest : drop (start + 2 * length pairs) line ≡ single
+  pub short : length single < 2
+
 -- an answer is what the text stands for, unless there was no memory
 abbrev pub Decodes : Result (List ℕ) LineFault → Result (Vec ℕ Global) LineFault → Type 0
 Decodes meant (Ok v) = meant ≡ Ok (vec_items v)
 Decodes meant (Err e) = (e ≡ NoMemory) ⊎ (meant ≡ Err e)
+
+-- the characters of a word; none where there is none
+abbrev pub text_of : Option (Bor (List ℕ)) → List ℕ
+text_of None = []
+text_of (Some word) = word.now
+
+-- an answer is what the word stands for, unless there was no memory
+abbrev pub DecodesWord : Result (List ℕ) LineFault → Result (Vec ℕ Global) NoHex → Type 0
+DecodesWord meant (Ok v) = meant ≡ Ok (vec_items v)
+DecodesWord meant (Err e) = (e.0 ≡ NoMemory) ⊎ (meant ≡ Err e.0)
 
 -- decoding what was encoded gives it back
 abbrev pub GivesBack : Type 0

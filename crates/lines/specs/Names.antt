@@ -1,8 +1,16 @@
 -- The names with which input lines begin. Assumes nothing.
-use Rattle.std.specs.Prelude.{ℕ, ◌+◌, Bool, cond, List, length, take, Some, None, codes, Option, ◌==◌, slice_index}
+use Rattle.std.specs.Prelude.{ℕ, ◌+◌, Bool, cond, List, [], ◌∷◌, length, take, Some, None, codes, Option, ◌==◌, slice_index}
 use Rattle.std.specs.Str.{bytes_eq}
 use Rattle.lines.specs.declared.names.Name.{Name}
 use Rattle.lines.specs.declared.names.Name.TheVariants.{Tick, Drawn, Packet, Word, Fall}
+
+-- a name as it stands on a line
+abbrev pub name_text : Name → List ℕ
+name_text Tick = codes "tick"
+name_text Drawn = codes "drawn"
+name_text Packet = codes "packet"
+name_text Word = codes "word"
+name_text Fall = codes "fall"
 
 -- whether a line begins with a name
 abbrev pub starts_with : List ℕ → List ℕ → Bool
@@ -18,7 +26,11 @@ abbrev pub or_else : Name → Option ℕ → Option (Name × ℕ) → Option (Na
 or_else name (Some at) other = Some (name, at)
 or_else name None other = other
 
+-- the first of some names with which a line begins, with where what follows it begins
+abbrev pub find_among : List ℕ → List Name → Option (Name × ℕ)
+find_among line [] = None
+find_among line (name ∷ more) = or_else name (name_start line (name_text name)) (find_among line more)
+
 -- the name with which a line begins, with where what follows it begins
 abbrev pub find_name : List ℕ → Option (Name × ℕ)
-find_name line =
-    or_else Tick (name_start line (codes "tick")) (or_else Drawn (name_start line (codes "drawn")) (or_else Packet (name_start line (codes "packet")) (or_else Word (name_start line (codes "word")) (or_else Fall (name_start line (codes "fall")) None))))
+find_name line = find_among line (Tick ∷ Drawn ∷ Packet ∷ Word ∷ Fall ∷ [])

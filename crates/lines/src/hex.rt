@@ -1,9 +1,9 @@
 // Bytes as hex digits: two for each byte, the high half first. Digits are read in either case and
 // written in lower case. Assumes nothing.
 ghost use Rattle.std.specs.Prelude.{◌≡◌, ◌+◌, ◌<◌, drop, IfOk};
-ghost use Rattle.lines.specs.Hex.{digit_value, digit_byte, encoded, decoded, Decodes, GivesBack};
+ghost use Rattle.lines.specs.Hex.{digit_value, digit_byte, encoded, decoded, text_of, Decodes, DecodesWord, GivesBack, IsCut};
 
-use crate::faults::LineFault;
+use crate::faults::{LineFault, NoHex};
 use std::alloc::{AllocError, Global};
 
 // The value of a hex digit in either case, or none for any other byte.
@@ -43,31 +43,40 @@ pub fn encode(heap: Global, bytes: &[u8]) -> Result<Vec<u8>, AllocError>
     Ok(text)
 }
 
+// What stands on a line from `start` on, two characters each, and the last one if it has no second.
+fn pairs_from(line: &[u8], start: usize) -> (&[[u8; 2]], &[u8])
+    ensures { IsCut line.now start result.0.now result.1.now }
+{
+    line.get(start..).unwrap_or(&[]).as_chunks()
+}
+
 /// The bytes that the hex digits of a line from `start` on stand for, in either case. Refuses the
 /// first character that is no hex digit, with its column, and then a digit that has no second
 /// one. It changes nothing.
-#[tactic(auto, using(crate::proofs::Digits::bad_high, crate::proofs::Digits::no_low, crate::proofs::Digits::bad_low, crate::proofs::Digits::pair_read))]
+#[tactic(auto, using(crate::proofs::Digits::bad_high, crate::proofs::Digits::no_low, crate::proofs::Pairs::begun, crate::proofs::Pairs::bad_first, crate::proofs::Pairs::bad_second, crate::proofs::Pairs::pair_done))]
 pub fn decode(heap: Global, line: &[u8], start: usize) -> Result<Vec<u8>, LineFault>
     ensures { Decodes (decoded (start + 1) (drop start line.now)) result }
 {
+    let (pairs, single) = pairs_from(line, start);
     let mut bytes = Vec::new(heap);
-    let mut at = start;
-    while at < line.len() {
-        let Some(high) = digit_value(line[at]) else {
-            return Err(LineFault::NotHex(at + 1));
-        };
-        if at + 1 == line.len() {
-            return Err(LineFault::OddHex);
-        }
-        let Some(low) = digit_value(line[at + 1]) else {
-            return Err(LineFault::NotHex(at + 2));
-        };
-        if bytes.push(high * 16 + low).is_err() {
-            return Err(LineFault::NoMemory);
-        }
-        at += 2;
+    for (i, [high, low]) in pairs.iter().enumerate() {
+        let column = start + 2 * i + 1;
+        let high = digit_value(*high).ok_or(LineFault::NotHex(column))?;
+        let low = digit_value(*low).ok_or(LineFault::NotHex(column + 1))?;
+        bytes.push(high * 16 + low)?;
     }
-    Ok(bytes)
+    let [digit] = single else {
+        return Ok(bytes);
+    };
+    digit_value(*digit).ok_or(LineFault::NotHex(line.len()))?;
+    Err(LineFault::OddHex)
+}
+
+/// The bytes that a word of hex digits stands for, in either case; none where there is no word.
+pub fn decode_word(heap: Global, word: Option<&str>) -> Result<Vec<u8>, NoHex>
+    ensures { DecodesWord (decoded 1 (text_of word.entry)) result }
+{
+    decode(heap, word.unwrap_or("").as_bytes(), 0).map_err(NoHex)
 }
 
 /// States that decoding what was encoded gives it back. It does nothing.

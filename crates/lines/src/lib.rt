@@ -11,6 +11,6 @@ mod reading;
 mod tests;
 
 pub use events::Event;
-pub use faults::LineFault;
-pub use hex::{decode, decode_gives_back, encode};
+pub use faults::{LineFault, NoHex};
+pub use hex::{decode, decode_gives_back, decode_word, encode};
 pub use reading::{every_event_has_its_line, read_line};

@@ -1,6 +1,6 @@
 // The names with which input lines begin. Assumes nothing.
-ghost use Rattle.std.specs.Prelude.{◌≡◌, ◌≤◌, true, length};
-ghost use Rattle.lines.specs.Names.{starts_with, name_start, find_name};
+ghost use Rattle.std.specs.Prelude.{◌≡◌};
+ghost use Rattle.lines.specs.Names.{name_text, name_start, find_name};
 
 /// The name of an event, the first thing on its line.
 #[derive(Clone, Copy, Debug, PartialEq, Eq)]
@@ -12,12 +12,28 @@ pub enum Name {
     Fall,
 }
 
-// Whether the line begins with these bytes.
-fn begins(line: &[u8], name: &[u8]) -> bool
-    ensures value { result ≡ starts_with line.now name.now }
-    ensures bound { result ≡ true → length name.now ≤ length line.now }
-{
-    line.starts_with(name)
+impl Name {
+    // All names, in the order in which a line is tried.
+    const ALL: [Name; 5] = [
+        Name::Tick,
+        Name::Drawn,
+        Name::Packet,
+        Name::Word,
+        Name::Fall,
+    ];
+
+    // The name as it stands on a line.
+    fn text(self) -> &'static [u8]
+        ensures { result.now ≡ name_text self }
+    {
+        match self {
+            Name::Tick => b"tick",
+            Name::Drawn => b"drawn",
+            Name::Packet => b"packet",
+            Name::Word => b"word",
+            Name::Fall => b"fall",
+        }
+    }
 }
 
 // Where what follows this name on the line begins: behind one space, or at the end of a line that
@@ -25,37 +41,21 @@ fn begins(line: &[u8], name: &[u8]) -> bool
 fn name_start(line: &[u8], name: &[u8]) -> Option<usize>
     ensures { result ≡ name_start line.now name.now }
 {
-    if !begins(line, name) {
-        return None;
+    match line.strip_prefix(name)? {
+        [] => Some(line.len()),
+        [b' ', ..] => Some(name.len() + 1),
+        _ => None,
     }
-    let end = name.len();
-    if line.len() == end {
-        return Some(end);
-    }
-    if line[end] == b' ' {
-        return Some(end + 1);
-    }
-    None
 }
 
 /// The name with which the line begins, and where what follows it begins, or none.
 pub fn find_name(line: &[u8]) -> Option<(Name, usize)>
     ensures { result ≡ find_name line.now }
 {
-    if let Some(at) = name_start(line, b"tick") {
-        return Some((Name::Tick, at));
-    }
-    if let Some(at) = name_start(line, b"drawn") {
-        return Some((Name::Drawn, at));
-    }
-    if let Some(at) = name_start(line, b"packet") {
-        return Some((Name::Packet, at));
-    }
-    if let Some(at) = name_start(line, b"word") {
-        return Some((Name::Word, at));
-    }
-    if let Some(at) = name_start(line, b"fall") {
-        return Some((Name::Fall, at));
+    for name in Name::ALL {
+        if let Some(at) = name_start(line, name.text()) {
+            return Some((name, at));
+        }
     }
     None
 }

@@ -9,13 +9,6 @@ use crate::hex::decode;
 use crate::names::{Name, find_name};
 use std::alloc::Global;
 
-// The line without the blanks at its end: spaces, tabs, and the bytes with which lines end.
-fn trimmed(line: &[u8]) -> &[u8]
-    ensures { result.now ≡ trim_end line.now }
-{
-    line.trim_ascii_end()
-}
-
 // The event of this name, with what follows on the line from `at` on.
 fn event_named(heap: Global, name: Name, line: &[u8], at: usize) -> Result<Event, LineFault>
     ensures { Reads (says_named line.now name at) result }
@@ -37,7 +30,7 @@ fn event_named(heap: Global, name: Name, line: &[u8], at: usize) -> Result<Event
 pub fn read_line(heap: Global, line: &[u8]) -> Result<Event, LineFault>
     ensures { Reads (line_says (trim_end line.now)) result }
 {
-    let line = trimmed(line);
+    let line = line.trim_ascii_end();
     if line.is_empty() {
         return Err(LineFault::EmptyLine);
     }

@@ -1,14 +1,11 @@
 // Lines as people write them: what they say, and what is wrong with them.
-use crate::{Event, LineFault, encode, read_line};
+use crate::{Event, LineFault, NoHex, decode_word, encode, read_line};
 use std::alloc::Global;
 use std::test::Fail;
 
 // What is wrong with a line, or none where it says an event.
 fn fault(heap: Global, line: &[u8]) -> Option<LineFault> {
-    match read_line(heap, line) {
-        Ok(_) => None,
-        Err(fault) => Some(fault),
-    }
+    read_line(heap, line).err()
 }
 
 #[test]
@@ -38,5 +35,22 @@ fn events(rt: HostRuntime) -> Result<(), Fail> {
     assert_eq!(rt; bytes.as_slice(), [0x00, 0xff, 0xa9].as_slice());
     let text = encode(heap, bytes.as_slice())?;
     assert_eq!(rt; text.as_slice(), b"00ffa9".as_slice());
+    Ok(())
+}
+
+#[test]
+fn words(rt: HostRuntime) -> Result<(), Fail> {
+    let heap = rt.alloc();
+    let bytes = decode_word(heap, Some("00fFA9"))?;
+    assert_eq!(rt; bytes.as_slice(), [0x00, 0xff, 0xa9].as_slice());
+    assert_eq!(rt; decode_word(heap, None)?.is_empty(), true);
+    assert_eq!(rt;
+        decode_word(heap, Some("00f")).err(),
+        Some(NoHex(LineFault::OddHex))
+    );
+    assert_eq!(rt;
+        decode_word(heap, Some("0 ")).err(),
+        Some(NoHex(LineFault::NotHex(2)))
+    );
     Ok(())
 }
