@@ -1,38 +1,24 @@
 -- Zeros at the front of bytes, and the first byte that is none. Assumes nothing.
-use Rattle.std.proofs.Common.{◌≡◌, ℕ, zero, suc, ◌+◌, ◌-◌, ◌<◌, ◌≤◌, Bool, true, false, cond, eqb, List, [], ◌∷◌, length, get_or, drop, Some, None, Option, sym, refl, ap, subst, add-one, arith, length-drop, get_or-drop, drop-cons}
+use Rattle.std.proofs.Common.{◌≡◌, ℕ, zero, suc, ◌+◌, ◌-◌, ◌<◌, ◌≤◌, Bool, true, false, cond, eqb, List, length, get_or, take, drop, Some, None, Option, sym, refl, ap, ◌∙◌, subst, arith, length-drop, get_or-drop}
 use Rattle.std.proofs.lemmas.Bool.{leb-true}
+use Rattle.std.proofs.lemmas.List.{get_or-take}
+use Rattle.std.proofs.lemmas.List.Sums.{prefix_len_stops}
+use Rattle.std.proofs.lemmas.List.Folds.{length-prefix_len}
+use Rattle.std.specs.List.{prefix_len}
 use Rattle.std.proofs.lemmas.Bool.Decides.{nat_tests}
 use Rattle.drawn.specs.declared.state.Draw.{Draw}
 use Rattle.drawn.specs.Draws.{zeros, passed_over, tag_at, draw_at, draw_of, spent_of, from_tag, enough, TagsAreTags}
 
+is_zero : ℕ → Bool
+is_zero b = eqb b 0
+
 -- the byte behind the zeros is none
 pub behind : (bs : List ℕ) → zeros bs < length bs → 0 < get_or bs (zeros bs) 0
-unfolding zeros
-behind [] h = omega arith
-behind (b ∷ bs) h = at_front (eqb b 0) refl h (behind bs)
-  where
-    at_front : (t : Bool) → eqb b 0 ≡ t → cond t (zeros bs + 1) 0 < length (b ∷ bs) → (zeros bs < length bs → 0 < get_or bs (zeros bs) 0) → 0 < get_or (b ∷ bs) (cond t (zeros bs + 1) 0) 0
-    at_front true e q rest = rw add-one (rest (omega arith))
-    at_front false e q rest = grind (arith, nat_tests)
-
--- zeros up to a place, and those from there on
-pub zeros_more : (bs : List ℕ) (i : ℕ) → i < length bs → get_or bs i 0 ≡ 0 → zeros (drop i bs) ≡ zeros (drop (i + 1) bs) + 1
-unfolding zeros
-zeros_more bs i h e = rw (drop-cons bs i 0 h, e) (ap (λ (k : ℕ). zeros (drop k bs) + 1) (sym (add-one i)))
-
-pub zeros-end : (bs : List ℕ) (i : ℕ) → i < length bs → (get_or bs i 0 ≡ 0 → ⊥) → zeros (drop i bs) ≡ 0
-unfolding zeros
-zeros-end bs i h e = rw (drop-cons bs i 0 h) (grind (arith, nat_tests))
-
-pub zeros_past : (bs : List ℕ) → zeros (drop (length bs) bs) ≡ 0
-unfolding zeros
-zeros_past [] = refl
-zeros_past (b ∷ bs) = zeros_past bs
-
-pub zeros-short : (bs : List ℕ) → zeros bs ≤ length bs
-unfolding zeros
-zeros-short [] = omega arith
-zeros-short (b ∷ bs) = let h : zeros bs ≤ length bs = zeros-short bs in grind (arith, nat_tests)
+unfolding is_zero
+behind bs h =
+    let counted : zeros bs ≡ prefix_len is_zero bs = length-prefix_len is_zero bs in
+    let stops : eqb (get_or bs (prefix_len is_zero bs) 0) 0 ≡ false = prefix_len_stops is_zero bs 0 (omega (arith, counted)) in
+    rw counted (grind (arith, nat_tests, stops))
 
 -- a number of eight bytes one of which is not 0 is not 0
 pub positive : (k : ℕ) (xs : List ℕ) → k < 8 → 0 < get_or xs k 0 → 0 < tag_at xs
@@ -61,5 +47,25 @@ not_zero bytes d e = drawn (enough bytes) refl e
     drawn false q s = let z : ◌≡◌ {A = ℕ} 0 1 = cc in omega arith
 
 pub tags_are_tags : TagsAreTags
-unfolding draw_of spent_of zeros
+unfolding draw_of spent_of
 tags_are_tags = record { not_zero = not_zero; passes = refl; takes = refl; none = refl; short = (refl, refl) }
+
+-- a tag is read from its eight bytes alone
+tag-front : (xs : List ℕ) → tag_at (take 8 xs) ≡ tag_at xs
+tag-front xs =
+    let at : (k : ℕ) → k < 8 → get_or (take 8 xs) k 0 ≡ get_or xs k 0 = λ k h. get_or-take 8 xs k 0 h in
+    omega (arith, at 0 (omega arith), at 1 (omega arith), at 2 (omega arith), at 3 (omega arith), at 4 (omega arith), at 5 (omega arith), at 6 (omega arith), at 7 (omega arith))
+
+-- a tag and sixteen bytes, each cut off at the front, are what is drawn
+pub drawn_here : (bytes tag drawn : List ℕ) (number : ℕ) → number ≡ tag_at tag → 24 ≤ length (from_tag bytes) → tag ≡ take 8 (from_tag bytes) → drawn ≡ take 16 (drop 8 (from_tag bytes)) → draw_of bytes ≡ Some (record { tag = number; bytes = drawn })
+unfolding draw_of
+drawn_here bytes tag drawn number read long first then =
+    let there : enough bytes ≡ true = grind (arith, nat_tests) in
+    let same : tag_at (from_tag bytes) ≡ number = sym (read ∙ ap tag_at first ∙ tag-front (from_tag bytes)) in
+    ap (λ t. cond t (Some (draw_at (from_tag bytes))) None) there ∙ (λ i. Some (record { tag = same i; bytes = sym then i }))
+
+pub spent_here : (bytes : List ℕ) → 24 ≤ length (from_tag bytes) → spent_of bytes ≡ passed_over bytes + 24
+unfolding spent_of
+spent_here bytes long =
+    let there : enough bytes ≡ true = grind (arith, nat_tests) in
+    ap (λ t. cond t (passed_over bytes + 24) 0) there

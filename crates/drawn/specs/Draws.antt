@@ -1,12 +1,12 @@
 -- What a word takes from a supply of drawn bytes: eight for its tag, and then sixteen. Eight bytes that are all 0 where a tag is wanted are passed over.
 -- Assumes nothing.
-use Rattle.std.specs.Prelude.{◌≡◌, ℕ, ◌+◌, ◌*◌, ◌/◌, ◌<◌, Bool, cond, List, [], ◌∷◌, ◌++◌, length, take, drop, replicate, Some, None, Option, ◌==◌, nat_le, slice_index}
+use Rattle.std.specs.Prelude.{◌≡◌, ℕ, ◌+◌, ◌*◌, ◌/◌, ◌<◌, ◌≤◌, Bool, cond, List, [], ◌∷◌, ◌++◌, length, take, drop, replicate, Some, None, Option, ◌==◌, nat_le, slice_index}
+use Rattle.std.specs.List.{take_while}
 use Rattle.drawn.specs.declared.state.Draw.{Draw}
 
 -- how many zeros stand at the front
-unfoldable pub zeros : List ℕ → ℕ
-zeros [] = 0
-zeros (b ∷ bs) = cond (b == 0) (zeros bs + 1) 0
+abbrev pub zeros : List ℕ → ℕ
+zeros bytes = length (take_while (λ b. b == 0) bytes)
 
 -- How many bytes are passed over: all the eights at the front that are 0.
 abbrev pub passed_over : List ℕ → ℕ
@@ -35,6 +35,11 @@ draw_of bytes = cond (enough bytes) (Some (draw_at (from_tag bytes))) None
 -- how many bytes that takes; none, where there is not enough
 unfoldable pub spent_of : List ℕ → ℕ
 spent_of bytes = cond (enough bytes) (passed_over bytes + 24) 0
+
+-- what is found at the front: a draw with how many bytes it takes, or too little for one
+abbrev pub IsFirstDraw : List ℕ → Option (Draw × ℕ) → Type 0
+IsFirstDraw bytes None = (draw_of bytes ≡ None) × (spent_of bytes ≡ 0)
+IsFirstDraw bytes (Some (d, n)) = (draw_of bytes ≡ Some d) × (spent_of bytes ≡ n) × (n ≤ length bytes)
 
 -- WHAT IS LEFT after it; where there is not enough, all.
 abbrev pub left_of : List ℕ → List ℕ

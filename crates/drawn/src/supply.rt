@@ -1,6 +1,6 @@
 // A supply of drawn bytes: adding to it, and drawing from it. Assumes nothing.
-ghost use Rattle.std.specs.Prelude.{◌≡◌, ◌≤◌, [], ◌++◌, length, drop, is_ok, if◌then◌else◌, vec_len};
-ghost use Rattle.drawn.specs.Draws.{zeros, passed_over, tag_at, draw_at, draw_of, spent_of, left_of, TagsAreTags};
+ghost use Rattle.std.specs.Prelude.{◌≡◌, ◌≤◌, [], ◌++◌, length, is_ok, if◌then◌else◌};
+ghost use Rattle.drawn.specs.Draws.{zeros, passed_over, draw_of, left_of, IsFirstDraw, TagsAreTags};
 
 use crate::state::{Draw, Supply};
 use std::alloc::{AllocError, Global};
@@ -15,12 +15,7 @@ fn zeros_of(bytes: &[u8]) -> usize
     ensures value { result ≡ zeros bytes.now }
     ensures within { result ≤ length bytes.now }
 {
-    for (i, byte) in bytes.iter().enumerate() {
-        if *byte != 0 {
-            return i;
-        }
-    }
-    bytes.len()
+    bytes.iter().take_while(|byte| **byte == 0).count()
 }
 
 /// Where the first tag that is not 0 begins.
@@ -31,52 +26,19 @@ fn start_of(bytes: &[u8]) -> usize
     zeros_of(bytes) / TAG * TAG
 }
 
-/// The tag at the front of eight bytes or more.
-fn tag_of(bytes: &[u8]) -> u64
-    requires { 8 ≤ length bytes.now }
-    ensures { result ≡ tag_at bytes.now }
-{
-    u64::from_be_bytes([
-        bytes[0], bytes[1], bytes[2], bytes[3], bytes[4], bytes[5], bytes[6], bytes[7],
-    ])
-}
-
-/// What the first 24 bytes give.
-fn draw_of(bytes: &[u8]) -> Draw
-    requires { 24 ≤ length bytes.now }
-    ensures { result ≡ draw_at bytes.now }
-{
-    let mut drawn = [0u8; 16];
-    drawn.copy_from_slice(&bytes[TAG..WHOLE]);
-    Draw {
-        tag: tag_of(bytes),
-        bytes: drawn,
-    }
-}
-
-/// What is drawn for one word, if there is enough.
-#[tactic(auto, unfolding(crate::specs::Draws::draw_of))]
-fn first_draw(bytes: &[u8]) -> Option<Draw>
-    ensures { result ≡ draw_of bytes.now }
-{
-    let (_, from_tag) = bytes.split_at(start_of(bytes));
-    if from_tag.len() < WHOLE {
-        return None;
-    }
-    Some(draw_of(from_tag))
-}
-
-/// How many bytes that takes.
-#[tactic(auto, unfolding(crate::specs::Draws::spent_of))]
-fn spent_on(bytes: &[u8]) -> usize
-    ensures value { result ≡ spent_of bytes.now }
-    ensures within { result ≤ length bytes.now }
+/// What is drawn for one word, and how many bytes that takes, if there is enough.
+#[tactic(auto, using(crate::proofs::Zeros::drawn_here, crate::proofs::Zeros::spent_here, std::proofs::lemmas::List::take_rest), unfolding(crate::specs::Draws::draw_of, crate::specs::Draws::spent_of))]
+fn first_draw(bytes: &[u8]) -> Option<(Draw, usize)>
+    ensures { IsFirstDraw bytes.now result }
 {
     let start = start_of(bytes);
-    if bytes.len() - start < WHOLE {
-        return 0;
-    }
-    start + WHOLE
+    let (tag, rest) = bytes[start..].split_first_chunk()?;
+    let drawn = rest.first_chunk()?;
+    let draw = Draw {
+        tag: u64::from_be_bytes(*tag),
+        bytes: *drawn,
+    };
+    Some((draw, start + WHOLE))
 }
 
 impl Supply {
@@ -96,26 +58,14 @@ impl Supply {
         self.bytes.extend_from_slice(more)
     }
 
-    /// Takes so many bytes from the front.
-    fn spend(&mut self, count: usize)
-        requires { count ≤ vec_len self.old.bytes }
-        ensures { self.new.bytes.items ≡ drop count self.old.bytes.items }
-    {
-        let left = self.bytes.len() - count;
-        self.bytes.rotate_left(count);
-        self.bytes.truncate(left);
-    }
-
     /// Draws for one word. Where too little is left nothing is taken, zeros in front neither.
     pub fn draw(&mut self) -> Option<Draw>
         ensures answer { result ≡ draw_of self.old.bytes.items }
         ensures after { self.new.bytes.items ≡ left_of self.old.bytes.items }
     {
-        let bytes = self.bytes.as_slice();
-        let draw = first_draw(bytes);
-        let count = spent_on(bytes);
-        self.spend(count);
-        draw
+        let (draw, spent) = first_draw(self.bytes.as_slice())?;
+        self.bytes.drain(..spent);
+        Some(draw)
     }
 
     /// Forgets all that is left.
