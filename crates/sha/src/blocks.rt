@@ -1,10 +1,11 @@
 // One block of SHA-256 (RFC 6234, 6.2): the message schedule, the rounds, and the hash value after them.
-ghost use Rattle.std.specs.Prelude.{◌≡◌, ◌+◌, ◌*◌, ◌<◌, ◌≤◌, length, get_or, set};
-ghost use Rattle.sha.specs.Sha256.{round_constants, word_at, next_word, block_words, extended, temp1 as temp1-of, temp2 as temp2-of, round as round-of, round_at, rounds as rounds-of, sums as sums-of, compressed};
-ghost use Rattle.sha.specs.Unrolled.{four_words};
+ghost use Rattle.std.specs.Prelude.{◌≡◌, ◌+◌, ◌*◌, ◌<◌, ◌≤◌, length, set, fold, zip};
+ghost use Rattle.sha.specs.Sha256.{next_word, block_words, extended, temp1 as temp1-of, temp2 as temp2-of, round as round-of, rounds as rounds-of, sums as sums-of, compressed};
 
-use crate::words::{bsig0, bsig1, ch, maj, ssig0, ssig1};
+use crate::words::{big_sigma, ch, maj, small_sigma};
+use std::array;
 
+// K0 to K63.
 const K: [u32; 64] = [
     0x428a2f98, 0x71374491, 0xb5c0fbcf, 0xe9b5dba5, 0x3956c25b, 0x59f111f1, 0x923f82a4, 0xab1c5ed5,
     0xd807aa98, 0x12835b01, 0x243185be, 0x550c7dc3, 0x72be5d74, 0x80deb1fe, 0x9bdc06a7, 0xc19bf174,
@@ -16,36 +17,14 @@ const K: [u32; 64] = [
     0x748f82ee, 0x78a5636f, 0x84c87814, 0x8cc70208, 0x90befffa, 0xa4506ceb, 0xbef9a3f7, 0xc67178f2,
 ];
 
-// Kt.
-#[tactic(auto, unfolding(crate::specs::Sha256::round_constants))]
-fn constant(t: usize) -> u32
-    requires { t < 64 }
-    ensures { result ≡ get_or round_constants t 0 }
-{
-    K[t]
-}
-
-// The t-th word of a block.
-fn word_at(block: &[u8], t: usize) -> u32
-    requires { 4 * t + 3 < length block.now }
-    ensures { result ≡ word_at block.now t }
-{
-    u32::from_be_bytes([
-        block[4 * t],
-        block[4 * t + 1],
-        block[4 * t + 2],
-        block[4 * t + 3],
-    ])
-}
-
 // The sum of the four words that Wt is made of.
 fn schedule_word(w: &[u32; 64], t: usize) -> u32
     requires { (16 ≤ t) × (t < 64) }
     ensures { set w.now t result ≡ next_word t w.now }
 {
-    ssig1(w[t - 2])
+    small_sigma::<17, 19, 10>(w[t - 2])
         .wrapping_add(w[t - 7])
-        .wrapping_add(ssig0(w[t - 15]))
+        .wrapping_add(small_sigma::<7, 18, 3>(w[t - 15]))
         .wrapping_add(w[t - 16])
 }
 
@@ -55,37 +34,21 @@ fn load(block: &[u8]) -> [u32; 64]
     ensures { result ≡ block_words 16 block.now }
 {
     let mut w = [0; 64];
-    for t in 0..16 {
-        w[t] = word_at(block, t);
+    for (t, bytes) in block.as_chunks().0.iter().enumerate() {
+        w[t] = u32::from_be_bytes(*bytes);
     }
     w
 }
 
-// Two words more of the message schedule.
-fn extend_two(w: &mut [u32; 64], t: usize)
-    requires { (16 ≤ t) × (t + 1 < 64) }
-    ensures { w.new ≡ next_word (t + 1) (next_word t w.old) }
-{
-    w[t] = schedule_word(w, t);
-    w[t + 1] = schedule_word(w, t + 1);
-}
-
-// Four words more.
-fn extend_four(w: &mut [u32; 64], t: usize)
-    requires { (16 ≤ t) × (t + 3 < 64) }
-    ensures { w.new ≡ four_words t w.old }
-{
-    extend_two(w, t);
-    extend_two(w, t + 2);
-}
-
-// The rest of the message schedule, each word from those before it, eight in each turn.
+// The rest of the message schedule, each word from those before it. The inner loop has a count that
+// the compiler knows, so it takes eight words at once.
 fn extend(w: &mut [u32; 64])
     ensures { w.new ≡ extended 48 w.old }
 {
-    for n in 0..6 {
-        extend_four(w, 16 + 8 * n);
-        extend_four(w, 20 + 8 * n);
+    for n in 2..8 {
+        for t in 8 * n..8 * n + 8 {
+            w[t] = schedule_word(w, t);
+        }
     }
 }
 
@@ -93,7 +56,7 @@ fn extend(w: &mut [u32; 64])
 fn temp1(v: &[u32; 8], k: u32, w: u32) -> u32
     ensures { result ≡ temp1-of v.now k w }
 {
-    v[7].wrapping_add(bsig1(v[4]))
+    v[7].wrapping_add(big_sigma::<6, 11, 25>(v[4]))
         .wrapping_add(ch(v[4], v[5], v[6]))
         .wrapping_add(k)
         .wrapping_add(w)
@@ -103,7 +66,7 @@ fn temp1(v: &[u32; 8], k: u32, w: u32) -> u32
 fn temp2(v: &[u32; 8]) -> u32
     ensures { result ≡ temp2-of v.now }
 {
-    bsig0(v[0]).wrapping_add(maj(v[0], v[1], v[2]))
+    big_sigma::<2, 13, 22>(v[0]).wrapping_add(maj(v[0], v[1], v[2]))
 }
 
 // The working variables after one round.
@@ -112,63 +75,51 @@ fn round(v: [u32; 8], k: u32, w: u32) -> [u32; 8]
 {
     let t1 = temp1(&v, k, w);
     let t2 = temp2(&v);
-    [
-        t1.wrapping_add(t2),
-        v[0],
-        v[1],
-        v[2],
-        v[3].wrapping_add(t1),
-        v[4],
-        v[5],
-        v[6],
-    ]
+    let [a, b, c, d, e, f, g, _h] = v;
+    [t1.wrapping_add(t2), a, b, c, d.wrapping_add(t1), e, f, g]
 }
 
-// Two rounds.
-fn two_rounds(v: [u32; 8], w: &[u32; 64], t: usize) -> [u32; 8]
-    requires { t + 1 < 64 }
-    ensures { result ≡ round_at (t + 1) w.now (round_at t w.now v) }
+// Eight rounds, by their constants and words.
+fn eight_rounds(v: [u32; 8], k: &[u32; 8], w: &[u32; 8]) -> [u32; 8]
+    ensures { result ≡ fold (λ v p. round-of v p.0 p.1) v (zip k.now w.now) }
 {
-    let first = round(v, constant(t), w[t]);
-    round(first, constant(t + 1), w[t + 1])
+    k.iter().zip(w).fold(v, |v, (k, w)|
+        ensures { result ≡ round-of v k.entry.now w.entry.now }
+    {
+        round(v, *k, *w)
+    })
 }
 
-// All rounds, four in each turn.
-fn rounds(start: [u32; 8], w: &[u32; 64]) -> [u32; 8]
-    ensures { result ≡ rounds-of 64 w.now start }
+// All rounds, by their constants and words, eight at once.
+fn rounds(v: [u32; 8], k: &[u32; 64], w: &[u32; 64]) -> [u32; 8]
+    ensures { result ≡ fold (λ v p. round-of v p.0 p.1) v (zip k.now w.now) }
 {
-    let mut v = start;
-    for n in 0..16 {
-        let half = two_rounds(v, w, 4 * n);
-        let after = two_rounds(half, w, 4 * n + 2);
-        v = after;
-    }
-    v
+    k.as_chunks()
+        .0
+        .iter()
+        .zip(w.as_chunks().0)
+        .fold(v, |v, (k, w)|
+            ensures { result ≡ fold (λ v p. round-of v p.0 p.1) v (zip k.entry.now w.entry.now) }
+        {
+            eight_rounds(v, k, w)
+        })
 }
 
 // The working variables added to the hash value.
 fn sums(h: &[u32; 8], v: &[u32; 8]) -> [u32; 8]
     ensures { result ≡ sums-of h.now v.now }
 {
-    [
-        v[0].wrapping_add(h[0]),
-        v[1].wrapping_add(h[1]),
-        v[2].wrapping_add(h[2]),
-        v[3].wrapping_add(h[3]),
-        v[4].wrapping_add(h[4]),
-        v[5].wrapping_add(h[5]),
-        v[6].wrapping_add(h[6]),
-        v[7].wrapping_add(h[7]),
-    ]
+    array::from_fn(|i| v[i].wrapping_add(h[i]))
 }
 
 /// The hash value after one more block of 64 bytes. It is never refused.
+#[tactic(auto, using(crate::proofs::Rounds::rounds_all), unfolding(crate::specs::Sha256::compressed, crate::specs::Sha256::schedule, crate::specs::Sha256::round_constants))]
 pub fn compress(h: &mut [u32; 8], block: &[u8])
     requires { length block.now ≡ 64 }
     ensures { h.new ≡ compressed h.old block.now }
 {
     let mut w = load(block);
     extend(&mut w);
-    let v = rounds(*h, &w);
+    let v = rounds(*h, &K, &w);
     *h = sums(h, &v);
 }

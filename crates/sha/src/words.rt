@@ -1,6 +1,6 @@
 // The functions of RFC 6234, 5.1, on 32-bit words.
-ghost use Rattle.std.specs.Prelude.{◌≡◌};
-ghost use Rattle.sha.specs.Sha256.{ch as ch-of, maj as maj-of, bsig0 as bsig0-of, bsig1 as bsig1-of, ssig0 as ssig0-of, ssig1 as ssig1-of};
+ghost use Rattle.std.specs.Prelude.{◌≡◌, ◌<◌, bit_xor};
+ghost use Rattle.sha.specs.Sha256.{ch as ch-of, maj as maj-of, rotr, shr};
 
 pub(crate) fn ch(x: u32, y: u32, z: u32) -> u32
     ensures { result ≡ ch-of x y z }
@@ -14,26 +14,22 @@ pub(crate) fn maj(x: u32, y: u32, z: u32) -> u32
     (x & y) ^ (x & z) ^ (y & z)
 }
 
-pub(crate) fn bsig0(x: u32) -> u32
-    ensures { result ≡ bsig0-of x }
+// BSIG0 and BSIG1: a word turned right by L, M and N bits.
+#[tactic(auto, using(crate::proofs::Turns::turned))]
+pub(crate) fn big_sigma<const L: u32, const M: u32, const N: u32>(x: u32) -> u32
+    requires below { (L < 32) × (M < 32) × (N < 32) }
+    requires turned { (0 < L) × (0 < M) × (0 < N) }
+    ensures { result ≡ bit_xor (bit_xor (rotr L x) (rotr M x)) (rotr N x) }
 {
-    x.rotate_right(2) ^ x.rotate_right(13) ^ x.rotate_right(22)
+    x.rotate_right(L) ^ x.rotate_right(M) ^ x.rotate_right(N)
 }
 
-pub(crate) fn bsig1(x: u32) -> u32
-    ensures { result ≡ bsig1-of x }
+// SSIG0 and SSIG1: a word turned right by L and M bits, and shifted right by N.
+#[tactic(auto, using(crate::proofs::Turns::turned), unfolding(crate::specs::Sha256::shr))]
+pub(crate) fn small_sigma<const L: u32, const M: u32, const N: u32>(x: u32) -> u32
+    requires below { (L < 32) × (M < 32) × (N < 32) }
+    requires turned { (0 < L) × (0 < M) }
+    ensures { result ≡ bit_xor (bit_xor (rotr L x) (rotr M x)) (shr N x) }
 {
-    x.rotate_right(6) ^ x.rotate_right(11) ^ x.rotate_right(25)
-}
-
-pub(crate) fn ssig0(x: u32) -> u32
-    ensures { result ≡ ssig0-of x }
-{
-    x.rotate_right(7) ^ x.rotate_right(18) ^ (x >> 3)
-}
-
-pub(crate) fn ssig1(x: u32) -> u32
-    ensures { result ≡ ssig1-of x }
-{
-    x.rotate_right(17) ^ x.rotate_right(19) ^ (x >> 10)
+    x.rotate_right(L) ^ x.rotate_right(M) ^ (x >> N)
 }

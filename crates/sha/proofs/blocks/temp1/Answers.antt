@@ -1,6 +1,6 @@
-use Rattle.sha.specs.Sha256.{temp1, add32}
+use Rattle.sha.specs.Sha256.{temp1, add32, bsig1}
 use Rattle.sha.proofs.blocks.temp1.Goals as goal
 
 pub returns : goal.returns
-unfolding temp1 add32
+unfolding temp1 add32 bsig1
 returns c = cc
