@@ -18,6 +18,7 @@ const K: [u32; 64] = [
 ];
 
 // The sum of the four words that Wt is made of.
+#[tactic(auto, unfolding(crate::specs::Sha256::next_word, crate::specs::Sha256::add32, crate::specs::Sha256::ssig0, crate::specs::Sha256::ssig1))]
 fn schedule_word(w: &[u32; 64], t: usize) -> u32
     requires { (16 ≤ t) × (t < 64) }
     ensures { set w.now t result ≡ next_word t w.now }
@@ -53,6 +54,7 @@ fn extend(w: &mut [u32; 64])
 }
 
 // T1.
+#[tactic(auto, unfolding(crate::specs::Sha256::temp1, crate::specs::Sha256::add32, crate::specs::Sha256::bsig1))]
 fn temp1(v: &[u32; 8], k: u32, w: u32) -> u32
     ensures { result ≡ temp1-of v.now k w }
 {
@@ -63,6 +65,7 @@ fn temp1(v: &[u32; 8], k: u32, w: u32) -> u32
 }
 
 // T2.
+#[tactic(auto, unfolding(crate::specs::Sha256::temp2, crate::specs::Sha256::add32, crate::specs::Sha256::bsig0))]
 fn temp2(v: &[u32; 8]) -> u32
     ensures { result ≡ temp2-of v.now }
 {
@@ -70,6 +73,7 @@ fn temp2(v: &[u32; 8]) -> u32
 }
 
 // The working variables after one round.
+#[tactic(auto, unfolding(crate::specs::Sha256::round, crate::specs::Sha256::add32))]
 fn round(v: [u32; 8], k: u32, w: u32) -> [u32; 8]
     ensures { result ≡ round-of v k w }
 {

@@ -2,12 +2,14 @@
 ghost use Rattle.std.specs.Prelude.{◌≡◌, ◌<◌, bit_xor};
 ghost use Rattle.sha.specs.Sha256.{ch as ch-of, maj as maj-of, rotr, shr};
 
+#[tactic(auto, unfolding(crate::specs::Sha256::ch, crate::specs::Sha256::not32))]
 pub(crate) fn ch(x: u32, y: u32, z: u32) -> u32
     ensures { result ≡ ch-of x y z }
 {
     (x & y) ^ (!x & z)
 }
 
+#[tactic(auto, unfolding(crate::specs::Sha256::maj))]
 pub(crate) fn maj(x: u32, y: u32, z: u32) -> u32
     ensures { result ≡ maj-of x y z }
 {
