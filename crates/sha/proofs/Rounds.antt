@@ -1,10 +1,25 @@
--- Rounds that are taken in groups are the rounds one after the other.
-use Rattle.std.proofs.Common.{◌≡◌, ℕ, zero, suc, ◌+◌, ◌*◌, ◌<◌, ◌≤◌, List, [], ◌∷◌, ◌++◌, length, get_or, take, drop, sym, refl, ap, ◌∙◌, ap₂, lit≤, arith, add-one, length-drop, take-add}
+-- The message schedule word by word, and rounds that are taken in groups.
+use Rattle.std.proofs.Common.{◌≡◌, ℕ, zero, suc, ◌+◌, ◌-◌, ◌*◌, ◌≤◌, List, [], ◌∷◌, ◌++◌, length, get_or, take, drop, sym, refl, ap, ◌∙◌, ap₂, lit≤, arith, length-drop, take-add}
 use Rattle.std.specs.List.{fold, zip}
 use Rattle.std.specs.Simd.{first_chunks}
 use Rattle.std.proofs.Math.Seq.{take-suc}
 use Rattle.std.proofs.lemmas.List.{take_all, length-take-le}
-use Rattle.sha.specs.Sha256.{round_constants, round, round_at, rounds}
+use Rattle.sha.specs.Sha256.{next_word, extended, round_constants, round, round_at, rounds}
+
+-- the schedule has its first sixteen words
+pub extended_none : (w : List ℕ) → w ≡ extended 0 w
+unfolding extended
+extended_none w = refl
+
+-- a word more of the schedule
+pub extended_more : (w x : List ℕ) (t : ℕ) → x ≡ extended (t - 16) w → 16 ≤ t → next_word t x ≡ extended (t + 1 - 16) w
+unfolding extended
+extended_more w x t e h =
+    let n : 16 + (t - 16) ≡ t = omega arith in
+    let more : t + 1 - 16 ≡ suc (t - 16) = omega arith in
+    ap₂ (λ k y. next_word k y) (sym n) e ∙ ap (λ k. extended k w) (sym more)
+
+pub ruleset words_extended = (extended_none, extended_more)
 
 -- rounds by their constants and words
 abbrev pub rounds_by : List ℕ → List ℕ → List ℕ → List ℕ

@@ -1,6 +1,6 @@
 // One block of SHA-256 (RFC 6234, 6.2): the message schedule, the rounds, and the hash value after them.
-ghost use Rattle.std.specs.Prelude.{◌≡◌, ◌+◌, ◌*◌, ◌<◌, ◌≤◌, length, set, fold, zip};
-ghost use Rattle.sha.specs.Sha256.{next_word, block_words, extended, temp1 as temp1-of, temp2 as temp2-of, round as round-of, rounds as rounds-of, sums as sums-of, compressed};
+ghost use Rattle.std.specs.Prelude.{◌≡◌, ◌<◌, ◌≤◌, length, set, fold, zip};
+ghost use Rattle.sha.specs.Sha256.{next_word, block_words, extended, temp1 as temp1-of, temp2 as temp2-of, round as round-of, sums as sums-of, compressed};
 
 use crate::words::{big_sigma, ch, maj, small_sigma};
 use std::array;
@@ -30,6 +30,7 @@ fn schedule_word(w: &[u32; 64], t: usize) -> u32
 }
 
 // The first sixteen words of the message schedule.
+#[tactic(auto, using(crate::proofs::Turns::word_loaded), unfolding(crate::specs::Sha256::block_words))]
 fn load(block: &[u8]) -> [u32; 64]
     requires { length block.now ≡ 64 }
     ensures { result ≡ block_words 16 block.now }
@@ -43,6 +44,7 @@ fn load(block: &[u8]) -> [u32; 64]
 
 // The rest of the message schedule, each word from those before it. The inner loop has a count that
 // the compiler knows, so it takes eight words at once.
+#[tactic(auto, using(crate::proofs::Rounds::words_extended))]
 fn extend(w: &mut [u32; 64])
     ensures { w.new ≡ extended 48 w.old }
 {
@@ -87,26 +89,24 @@ fn round(v: [u32; 8], k: u32, w: u32) -> [u32; 8]
 fn eight_rounds(v: [u32; 8], k: &[u32; 8], w: &[u32; 8]) -> [u32; 8]
     ensures { result ≡ fold (λ v p. round-of v p.0 p.1) v (zip k.now w.now) }
 {
-    k.iter().zip(w).fold(v, |v, (k, w)|
-        ensures { result ≡ round-of v k.entry.now w.entry.now }
-    {
-        round(v, *k, *w)
-    })
+    k.iter().zip(w).fold(
+        v,
+        |v, (k, w)|
+            ensures { result ≡ round-of v k.entry.now w.entry.now }
+        { round(v, *k, *w) },
+    )
 }
 
 // All rounds, by their constants and words, eight at once.
 fn rounds(v: [u32; 8], k: &[u32; 64], w: &[u32; 64]) -> [u32; 8]
     ensures { result ≡ fold (λ v p. round-of v p.0 p.1) v (zip k.now w.now) }
 {
-    k.as_chunks()
-        .0
-        .iter()
-        .zip(w.as_chunks().0)
-        .fold(v, |v, (k, w)|
+    k.as_chunks().0.iter().zip(w.as_chunks().0).fold(
+        v,
+        |v, (k, w)|
             ensures { result ≡ fold (λ v p. round-of v p.0 p.1) v (zip k.entry.now w.entry.now) }
-        {
-            eight_rounds(v, k, w)
-        })
+        { eight_rounds(v, k, w) },
+    )
 }
 
 // The working variables added to the hash value.
@@ -116,7 +116,8 @@ fn sums(h: &[u32; 8], v: &[u32; 8]) -> [u32; 8]
     array::from_fn(|i| v[i].wrapping_add(h[i]))
 }
 
-/// The hash value after one more block of 64 bytes. It is never refused.
+/// The hash value after one more block of 64 bytes. It is never refused. The block is a slice, so that
+/// 64 bytes of a longer text are taken as they stand.
 #[tactic(auto, using(crate::proofs::Rounds::rounds_all), unfolding(crate::specs::Sha256::compressed, crate::specs::Sha256::schedule, crate::specs::Sha256::round_constants))]
 pub fn compress(h: &mut [u32; 8], block: &[u8])
     requires { length block.now ≡ 64 }
