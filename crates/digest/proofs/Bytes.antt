@@ -1,38 +1,12 @@
 -- Words as bytes, one after the other.
-use Rattle.std.proofs.Common.{◌≡◌, ℕ, ◌+◌, ◌*◌, ◌<◌, ◌≤◌, List, [], ◌∷◌, ◌++◌, length, get_or, take, drop, sym, refl, ap, ◌∙◌, append_assoc, arith}
-use borrow.Rule.Slice.PartMut.{put_mid}
-use Rattle.std.proofs.lemmas.List.{take_more, length-take-le, take_at, drop_at, drop-drop, take_all, drop_all, append-nil}
+use Rattle.std.proofs.Common.{◌≡◌, ℕ, suc, ◌<◌, List, [], ◌∷◌, length, get_or, refl, ap₂, ◌++◌, arith, lit<}
+use Rattle.std.specs.List.{flat_map}
 use Rattle.digest.specs.Sha256.{word_bytes, serialized}
 
-serialized-append : (xs ys : List ℕ) → serialized (xs ++ ys) ≡ serialized xs ++ serialized ys
-unfolding serialized word_bytes
-serialized-append [] ys = refl
-serialized-append (x ∷ xs) ys = ap (λ zs. word_bytes x ++ zs) (serialized-append xs ys)
-
-pub length-serialized : (xs : List ℕ) → length (serialized xs) ≡ 4 * length xs
-unfolding serialized word_bytes
-length-serialized [] = refl
-length-serialized (x ∷ xs) = let more = length-serialized xs in omega arith
-
-serialized_more : (ws : List ℕ) (i : ℕ) → i < length ws → serialized (take (i + 1) ws) ≡ serialized (take i ws) ++ word_bytes (get_or ws i 0)
-unfolding serialized word_bytes
-serialized_more ws i h = rw (take_more ws i 0 h) (serialized-append (take i ws) (get_or ws i 0 ∷ []))
-
--- the i-th word is written as bytes, after those before it
-pub word_written : (ws z : List ℕ) (i : ℕ) → i < length ws → 4 * length ws ≤ length z
-    → put_mid (4 * i) 4 (serialized (take i ws) ++ drop (4 * i) z) (word_bytes (get_or ws i 0)) ≡ serialized (take (i + 1) ws) ++ drop (4 * (i + 1)) z
-word_written ws z i h k =
-    let n : length (serialized (take i ws)) ≡ 4 * i = length-serialized (take i ws) ∙ ap (λ m. 4 * m) (length-take-le i ws (omega arith)) in
-    let front : take (4 * i) (serialized (take i ws) ++ drop (4 * i) z) ≡ serialized (take i ws) = take_at _ _ _ n in
-    let back : drop (4 * i) (serialized (take i ws) ++ drop (4 * i) z) ≡ drop (4 * i) z = drop_at _ _ _ n in
-    let past : drop 4 (drop (4 * i) z) ≡ drop (4 * i + 4) z = drop-drop 4 (4 * i) z in
-    let next : 4 * i + 4 ≡ 4 * (i + 1) = omega arith in
-    let more : serialized (take (i + 1) ws) ≡ serialized (take i ws) ++ word_bytes (get_or ws i 0) = serialized_more ws i h in
-    rw (front, back, past, next, more) (sym (append_assoc (serialized (take i ws)) (word_bytes (get_or ws i 0)) (drop (4 * (i + 1)) z)))
-
--- all words are written
-pub words_written : (ws z : List ℕ) (i : ℕ) → length ws ≤ i → length z ≤ 4 * i → serialized (take i ws) ++ drop (4 * i) z ≡ serialized ws
-words_written ws z i h k =
-    let all : take i ws ≡ ws = take_all i ws h in
-    let none : drop (4 * i) z ≡ [] = drop_all (4 * i) z k in
-    rw (all, none) (append-nil (serialized ws))
+-- the bytes of each word, joined
+pub words_joined : (ws : List ℕ) (bytes : List (List ℕ)) → length bytes ≡ length ws → ((i : ℕ) → i < length ws → get_or bytes i [] ≡ word_bytes (get_or ws i 0)) → flat_map (λ x. x) bytes ≡ serialized ws
+unfolding serialized
+words_joined [] [] n each = refl
+words_joined [] (b ∷ bytes) n each = cc
+words_joined (w ∷ ws) [] n each = cc
+words_joined (w ∷ ws) (b ∷ bytes) n each = ap₂ (λ x y. x ++ y) (each 0 (omega arith)) (words_joined ws bytes (omega arith) (λ i h. each (suc i) (omega arith)))

@@ -1,28 +1,28 @@
 -- Padded keys, and what is refused for its length.
-use Rattle.std.proofs.Common.{◌≡◌, ℕ, ◌+◌, ◌-◌, ◌^◌, ◌<◌, Bool, true, false, cond, ltb, List, [], ◌∷◌, ◌++◌, map, length, get_or, take, drop, set, replicate, Ok, Err, Result, sym, refl, ap, ◌∙◌, append_assoc, arith, length-append}
+use Rattle.std.proofs.Common.{◌≡◌, ℕ, ◌+◌, ◌-◌, ◌^◌, ◌<◌, ◌≤◌, Bool, true, false, cond, ltb, List, [], ◌∷◌, ◌++◌, map, length, get_or, take, drop, set, replicate, Ok, Err, Result, sym, refl, ap, ◌∙◌, ap₂, append_assoc, arith, length-append}
 use lib.Bits.{bit_xor}
-use Rattle.std.proofs.lemmas.List.{take_all, drop_more, set_at, map_more, map-append, length-map, length-take-le}
+use Rattle.std.proofs.lemmas.List.{append-nil, take_all, drop_all, drop_more, set_at, get_or_at, map_more, length-map, length-take-le}
 use Rattle.digest.specs.declared.state.Fault.{Fault}
 use Rattle.digest.specs.declared.state.Fault.TheVariants.{TooLong}
 use Rattle.digest.specs.Hashers.{limited}
 use Rattle.digest.specs.Sha256.{sha256}
 use Rattle.digest.specs.Hmac.{short_key, key_block, inner_pad, outer_pad}
 
--- a byte more of a padded key
-pub pad_more : (f : ℕ → ℕ) (key z : List ℕ) (i : ℕ) → i < length key → i < length z
-    → set (map f (take i key) ++ drop i z) i (f (get_or key i 0)) ≡ map f (take (i + 1) key) ++ drop (i + 1) z
-pad_more f key z i h k =
-    let n : length (map f (take i key)) ≡ i = length-map (take i key) f ∙ length-take-le i key (omega arith) in
-    ap (λ r. set (map f (take i key) ++ r) i (f (get_or key i 0))) (drop_more z i 0 k)
-    ∙ set_at (map f (take i key)) (get_or z i 0) (drop (i + 1) z) (f (get_or key i 0)) i n
-    ∙ sym (append_assoc (map f (take i key)) (f (get_or key i 0) ∷ []) (drop (i + 1) z))
-    ∙ ap (λ r. r ++ drop (i + 1) z) (sym (map_more f key i 0 h))
+-- a byte more of a list that is turned in place
+pub turned_more : (f : ℕ → ℕ) (xs ys : List ℕ) (i : ℕ) → i < length xs → ys ≡ map f (take i xs) ++ drop i xs
+    → set ys i (f (get_or ys i 0)) ≡ map f (take (i + 1) xs) ++ drop (i + 1) xs
+turned_more f xs ys i h e =
+    let n : length (map f (take i xs)) ≡ i = length-map (take i xs) f ∙ length-take-le i xs (omega arith) in
+    let split : ys ≡ map f (take i xs) ++ (get_or xs i 0 ∷ drop (i + 1) xs) = e ∙ ap (λ r. map f (take i xs) ++ r) (drop_more xs i 0 h) in
+    let here : get_or ys i 0 ≡ get_or xs i 0 = ap (λ zs. get_or zs i 0) split ∙ get_or_at (map f (take i xs)) (get_or xs i 0) (drop (i + 1) xs) 0 i n in
+    ap₂ (λ zs z. set zs i (f z)) split here
+    ∙ set_at (map f (take i xs)) (get_or xs i 0) (drop (i + 1) xs) (f (get_or xs i 0)) i n
+    ∙ sym (append_assoc (map f (take i xs)) (f (get_or xs i 0) ∷ []) (drop (i + 1) xs))
+    ∙ ap (λ r. r ++ drop (i + 1) xs) (sym (map_more f xs i 0 h))
 
--- all bytes of a padded key
-pub pad_all : (pad : ℕ) (key : List ℕ) → length key ≡ 32
-    → map (λ b. bit_xor b pad) (take 32 key) ++ drop 32 (replicate 64 pad) ≡ map (λ b. bit_xor b pad) (key ++ replicate 32 0)
-pad_all pad key h =
-    ap (λ r. map (λ b. bit_xor b pad) r ++ replicate 32 pad) (take_all 32 key (omega arith)) ∙ sym (map-append (λ b. bit_xor b pad) key (replicate 32 0))
+-- all bytes of a list that is turned in place
+pub turned_all : (f : ℕ → ℕ) (xs ys : List ℕ) (i : ℕ) → length xs ≤ i → ys ≡ map f (take i xs) ++ drop i xs → ys ≡ map f xs
+turned_all f xs ys i h e = e ∙ ap₂ (λ p q. map f p ++ q) (take_all i xs h) (drop_all i xs h) ∙ append-nil (map f xs)
 
 -- the block of a key of 32 bytes
 key-block : (key : List ℕ) → length key ≡ 32 → key_block key ≡ key ++ replicate 32 0

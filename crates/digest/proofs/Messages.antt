@@ -1,11 +1,14 @@
 -- A message that is hashed in pieces: the hash value after more blocks, and what a hasher holds after a piece.
-use Rattle.std.proofs.Common.{◌≡◌, ℕ, zero, suc, ◌+◌, ◌-◌, ◌*◌, ◌/◌, ◌%◌, ◌<◌, ◌≤◌, List, [], ◌++◌, length, take, drop, sym, refl, ap, ◌∙◌, ap₂, append_assoc, zero-add, arith, length-append, length-drop, take-add}
+use Rattle.std.proofs.Common.{◌≡◌, ℕ, zero, suc, ◌+◌, ◌-◌, ◌*◌, ◌/◌, ◌%◌, ◌<◌, ◌≤◌, List, [], ◌∷◌, ◌++◌, length, get_or, take, drop, replicate, subst, sym, refl, ap, ◌∙◌, ap₂, append_assoc, zero-add, arith, length-append, length-drop, take-add}
 use borrow.Rule.Slice.PartMut.{put_mid}
-use Rattle.std.proofs.lemmas.List.{append-nil, take_at, take_all, take-take, take-append-le, drop-append-le, nil_from_length}
+use Rattle.std.proofs.lemmas.List.{append-nil, take_at, drop_at, take_all, take_more, take-append-le, drop-append-le, take-append-drop, nil_from_length}
+use Rattle.std.proofs.lemmas.List.Folds.{concat-append}
+use Rattle.std.specs.List.{concat}
+use Rattle.std.specs.Simd.{first_chunks}
 use Rattle.digest.specs.declared.state.Hasher.{Hasher}
-use Rattle.digest.specs.Hashers.{Holds}
-use Rattle.digest.specs.Sha256.{initial_hash, compressed, hashed, padding, end_of, last_hash}
-use Rattle.digest.proofs.Padding.{length-padding}
+use Rattle.digest.specs.Hashers.{Absorbs, Holds}
+use Rattle.digest.specs.Sha256.{initial_hash, compressed, hashed, length_bytes, padding, end_of, last_hash}
+use Rattle.digest.proofs.Padding.{length-padding, end_one, end_two, ends_here, ends_later}
 
 pub hashed-add : (a b : ℕ) (h x y : List ℕ) → length x ≡ 64 * a → hashed (a + b) h (x ++ y) ≡ hashed b (hashed a h x) y
 unfolding hashed
@@ -98,11 +101,48 @@ holds_full h h' m piece block r long room hb full hs ht =
     sym (take_all 64 block (omega arith)) ∙ ap₂ (λ k b. take k b) (sym n) same ∙ put_rest h.block r.rest piece long r.buffer (omega arith) in
     holds-block h h' m piece block r all full hs ht
 
--- a part of which one piece more is taken
-pub joins_next : (m part : List ℕ) (at n : ℕ) → (m ++ take at part) ++ take (at + n - at) (drop at part) ≡ m ++ take (at + n) part
-joins_next m part at n =
-    let e : at + n - at ≡ n = omega arith in
-    ap (λ k. (m ++ take at part) ++ take k (drop at part)) e ∙ append_assoc m (take at part) (take n (drop at part)) ∙ ap (λ x. m ++ x) (sym (take-add at n part))
+-- three pieces, one after the other
+pub absorbs_all : (a b c d : Hasher) (first blocks rest part : List ℕ) → Absorbs a b first → Absorbs b c blocks → Absorbs c d rest → part ≡ first ++ (blocks ++ rest) → Absorbs a d part
+absorbs_all a b c d first blocks rest part p q r e =
+    let long : length part ≡ length first + (length blocks + length rest) =
+    ap length e ∙ length-append first (blocks ++ rest) ∙ ap (λ n. length first + n) (length-append blocks rest) in
+    record {
+      total = omega (arith, p.total, q.total, r.total);
+      holds = λ m h.
+          subst (λ x. Holds d x)
+          (append_assoc (m ++ first) blocks rest ∙ append_assoc m first (blocks ++ rest) ∙ ap (λ x. m ++ x) (sym e))
+          (r.holds ((m ++ first) ++ blocks) (q.holds (m ++ first) (p.holds m h)));
+    }
+
+-- no block
+pub absorbs_none : (h : Hasher) → Absorbs h h []
+absorbs_none h = record { total = omega arith; holds = λ m r. subst (λ x. Holds h x) (sym (append-nil m)) r }
+
+-- a block more
+pub absorbs_more : (a b c : Hasher) (blocks : List (List ℕ)) (i : ℕ) → i < length blocks → Absorbs a b (concat (take i blocks)) → Absorbs b c (get_or blocks i [])
+    → Absorbs a c (concat (take (i + 1) blocks))
+absorbs_more a b c blocks i h p q =
+    let block : List ℕ = get_or blocks i [] in
+    let more : concat (take (i + 1) blocks) ≡ concat (take i blocks) ++ (block ++ []) =
+    ap concat (take_more blocks i [] h) ∙ concat-append (take i blocks) (block ∷ []) in
+    absorbs_all a b c c (concat (take i blocks)) block [] (concat (take (i + 1) blocks)) p q (absorbs_none c) more
+
+-- chunks, joined
+concat_chunks : (n k : ℕ) (xs : List ℕ) → concat (first_chunks n k xs) ≡ take (n * k) xs
+concat_chunks n zero xs = let none : 0 ≡ n * 0 = omega arith in ap (λ i. take i xs) none
+concat_chunks n (suc k) xs =
+    let more : n + n * k ≡ n * suc k = omega arith in
+    ap (λ ys. take n xs ++ ys) (concat_chunks n k (drop n xs)) ∙ sym (take-add n (n * k) xs) ∙ ap (λ i. take i xs) more
+
+-- a part: its first bytes, whole blocks, and the rest
+pub part_is : (part first others rest : List ℕ) (blocks : List (List ℕ)) (n i : ℕ) → first ≡ take n part → others ≡ drop n part
+    → blocks ≡ first_chunks 64 (length others / 64) others → rest ≡ drop (length others / 64 * 64) others → length blocks ≤ i
+    → part ≡ first ++ (concat (take i blocks) ++ rest)
+part_is part first others rest blocks n i hf ho hb hr all =
+    let k : ℕ = length others / 64 in
+    let same : 64 * k ≡ k * 64 = omega arith in
+    let front : concat (take i blocks) ≡ take (k * 64) others = ap concat (take_all i blocks all ∙ hb) ∙ concat_chunks 64 k others ∙ ap (λ j. take j others) same in
+    sym (ap₂ (λ x y. first ++ (x ++ y)) front hr ∙ ap (λ x. first ++ x) (take-append-drop (k * 64) others) ∙ ap₂ (λ x y. x ++ y) hf ho ∙ take-append-drop n part)
 
 -- the hash value after the last blocks, from the state before them
 closed : (h : Hasher) (m : List ℕ) → (r : Holds h m) (n : ℕ) → end_of h.total ≡ 64 * n
@@ -120,30 +160,39 @@ closed h m r n he =
     ∙ hashed-add r.blocks n initial_hash r.front (r.rest ++ padding h.total) r.whole
     ∙ ap (λ s. hashed n s (r.rest ++ padding h.total)) (sym r.state)
 
--- what the last blocks hold, by what the buffer holds
-rest_padded : (h : Hasher) (m last : List ℕ) → (r : Holds h m) → take (end_of h.total) last ≡ take (h.total % 64) h.block ++ padding h.total
-    → take (end_of h.total) last ≡ r.rest ++ padding h.total
-rest_padded h m last r e = e ∙ ap (λ x. x ++ padding h.total) (ap (λ k. take k h.block) (filled h m r) ∙ r.buffer)
+-- what the buffer holds
+rest_is : (h : Hasher) (m : List ℕ) → (r : Holds h m) → take (h.total % 64) h.block ≡ r.rest
+rest_is h m r = ap (λ k. take k h.block) (filled h m r) ∙ r.buffer
 
 -- one block is left
-pub closed_one : (h : Hasher) (m last : List ℕ) → Holds h m → end_of h.total ≡ 64
-    → take (end_of h.total) last ≡ take (h.total % 64) h.block ++ padding h.total
-    → compressed h.state (take 64 last) ≡ last_hash m
+pub closed_one : (h : Hasher) (m last : List ℕ) → Holds h m → h.total % 64 < 56
+    → last ≡ take (h.total % 64) h.block ++ (128 ∷ replicate (63 - h.total % 64) 0)
+    → compressed h.state (take 56 last ++ length_bytes (8 * h.total)) ≡ last_hash m
 unfolding hashed
-closed_one h m last r he hl =
-    let all : take 64 last ≡ r.rest ++ padding h.total = ap (λ k. take k last) (sym he) ∙ rest_padded h m last r hl in
-    let again : take 64 (take 64 last) ≡ take 64 last = take-take 64 64 last (omega arith) in
-    sym (closed h m r 1 he ∙ ap (λ x. compressed h.state (take 64 x)) (sym all) ∙ ap (λ x. compressed h.state x) again)
+closed_one h m last r room e =
+    let all : List ℕ = r.rest ++ padding h.total in
+    let text : take 56 last ++ length_bytes (8 * h.total) ≡ all =
+    ap (λ x. take 56 x ++ length_bytes (8 * h.total)) (e ∙ ap (λ x. x ++ (128 ∷ replicate (63 - h.total % 64) 0)) (rest_is h m r))
+    ∙ ends_here r.rest h.total (sym (filled h m r)) room in
+    let end : end_of h.total ≡ 64 = end_one h.total room in
+    let pad : h.total % 64 + length (padding h.total) ≡ end_of h.total = length-padding h.total in
+    let at : h.total % 64 ≡ length r.rest = filled h m r in
+    let long : length all ≡ 64 = length-append r.rest (padding h.total) ∙ omega arith in
+    ap (λ x. compressed h.state x) (text ∙ sym (take_all 64 all (omega arith))) ∙ sym (closed h m r 1 end)
 
 -- two blocks are left
-pub closed_two : (h : Hasher) (m last : List ℕ) → Holds h m → end_of h.total ≡ 128 → length last ≡ 128
-    → take (end_of h.total) last ≡ take (h.total % 64) h.block ++ padding h.total
-    → compressed (compressed h.state (take 64 last)) (take 64 (drop 64 last)) ≡ last_hash m
-unfolding hashed
-closed_two h m last r he hn hl =
-    let all : last ≡ r.rest ++ padding h.total =
-    sym (take_all 128 last (omega arith)) ∙ ap (λ k. take k last) (sym he) ∙ rest_padded h m last r hl in
-    sym (closed h m r 2 he ∙ ap (λ x. compressed (compressed h.state (take 64 x)) (take 64 (drop 64 x))) (sym all))
+pub closed_two : (h : Hasher) (m last : List ℕ) → Holds h m → 56 ≤ h.total % 64
+    → last ≡ take (h.total % 64) h.block ++ (128 ∷ replicate (63 - h.total % 64) 0) → length last ≡ 64
+    → compressed (compressed h.state last) (replicate 56 0 ++ length_bytes (8 * h.total)) ≡ last_hash m
+unfolding hashed length_bytes
+closed_two h m last r full e long =
+    let tail : List ℕ = replicate 56 0 ++ length_bytes (8 * h.total) in
+    let all : List ℕ = r.rest ++ padding h.total in
+    let text : last ++ tail ≡ all =
+    ap (λ x. x ++ tail) (e ∙ ap (λ x. x ++ (128 ∷ replicate (63 - h.total % 64) 0)) (rest_is h m r)) ∙ ends_later r.rest h.total full in
+    let first : take 64 all ≡ last = ap (take 64) (sym text) ∙ take_at last tail 64 long in
+    let second : take 64 (drop 64 all) ≡ tail = ap (λ x. take 64 (drop 64 x)) (sym text) ∙ ap (take 64) (drop_at last tail 64 long) in
+    sym (closed h m r 2 (end_two h.total full) ∙ ap₂ (λ x y. compressed (compressed h.state x) y) first second)
 
 -- a new hasher holds nothing
 pub holds-none : (h : Hasher) → h.state ≡ initial_hash → h.total ≡ 0 → Holds h []

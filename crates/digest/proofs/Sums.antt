@@ -2,7 +2,7 @@
 use Rattle.std.proofs.Common.{◌≡◌, ℕ, ◌+◌, ◌<◌, ◌≤◌, List, [], ◌∷◌, ◌++◌, length, get_or, take, sym, refl, ap, ◌∙◌, ap₂, arith}
 use lib.Bits.{bit_or, bit_xor, or_add_and, xor_self, xor_assoc, xor_zero_r, xor_zero_l}
 use Rattle.std.proofs.lemmas.Nat.{and_le_l, and_le_r}
-use Rattle.std.proofs.lemmas.List.{take_more, take_all, same_from_push}
+use Rattle.std.specs.List.{fold, zip}
 
 or_none : (a b : ℕ) → bit_or a b ≡ 0 → (a ≡ 0) × (b ≡ 0)
 or_none a b e = (omega (arith, or_add_and a b, and_le_l a b, and_le_r a b), omega (arith, or_add_and a b, and_le_l a b, and_le_r a b))
@@ -11,40 +11,26 @@ xor_none : (x y : ℕ) → bit_xor x y ≡ 0 → x ≡ y
 xor_none x y e =
     sym (xor_zero_r x) ∙ ap (λ z. bit_xor x z) (sym e) ∙ sym (xor_assoc x x y) ∙ ap (λ z. bit_xor z y) (xor_self x) ∙ xor_zero_l y
 
--- a byte more was compared
-same_more : (xs ys : List ℕ) (i d : ℕ) → i < length xs → i < length ys → (d ≡ 0 → take i xs ≡ take i ys)
-    → bit_or d (bit_xor (get_or xs i 0) (get_or ys i 0)) ≡ 0 → take (i + 1) xs ≡ take (i + 1) ys
-same_more xs ys i d hx hy before e =
-    let z : (d ≡ 0) × (bit_xor (get_or xs i 0) (get_or ys i 0) ≡ 0) = or_none d (bit_xor (get_or xs i 0) (get_or ys i 0)) e in
-    take_more xs i 0 hx ∙ ap₂ (λ zs z. zs ++ z ∷ []) (before z.0) (xor_none (get_or xs i 0) (get_or ys i 0) z.1) ∙ sym (take_more ys i 0 hy)
+-- the difference so far, and two bytes more
+abbrev pub more : ℕ → ℕ × ℕ → ℕ
+more d p = bit_or d (bit_xor p.0 p.1)
 
-found_more : (xs ys : List ℕ) (i d : ℕ) → i < length xs → i < length ys → (take i xs ≡ take i ys → d ≡ 0)
-    → take (i + 1) xs ≡ take (i + 1) ys → bit_or d (bit_xor (get_or xs i 0) (get_or ys i 0)) ≡ 0
-found_more xs ys i d hx hy before e =
-    let both : (take i xs ≡ take i ys) × (get_or xs i 0 ≡ get_or ys i 0) =
-    same_from_push (take i xs) (take i ys) (get_or xs i 0) (get_or ys i 0) (sym (take_more xs i 0 hx) ∙ e ∙ take_more ys i 0 hy) in
-    ap₂ bit_or (before both.0) (ap (λ z. bit_xor z (get_or ys i 0)) both.1 ∙ xor_self (get_or ys i 0))
+none_before : (xs ys : List ℕ) (d : ℕ) → length xs ≡ length ys → fold more d (zip xs ys) ≡ 0 → (d ≡ 0) × (xs ≡ ys)
+none_before [] [] d n e = (e, refl)
+none_before [] (y ∷ ys) d n e = cc
+none_before (x ∷ xs) [] d n e = cc
+none_before (x ∷ xs) (y ∷ ys) d n e =
+    let later : (more d (x, y) ≡ 0) × (xs ≡ ys) = none_before xs ys (more d (x, y)) (omega arith) e in
+    let here : (d ≡ 0) × (bit_xor x y ≡ 0) = or_none d (bit_xor x y) later.0 in
+    (here.0, ap₂ (λ z zs. z ∷ zs) (xor_none x y here.1) later.1)
 
--- what the first i bytes of two sums differ by is 0 exactly if they are the same
-unfoldable pub Compared : (xs ys : List ℕ) (i d : ℕ) → Type 0
-Compared xs ys i d = (d ≡ 0 → take i xs ≡ take i ys) × (take i xs ≡ take i ys → d ≡ 0)
+none_along : (xs : List ℕ) (d : ℕ) → d ≡ 0 → fold more d (zip xs xs) ≡ 0
+none_along [] d e = e
+none_along (x ∷ xs) d e = none_along xs (more d (x, x)) (ap₂ bit_or e (xor_self x))
 
-pub compared_none : (xs ys : List ℕ) → Compared xs ys 0 0
-unfolding Compared
-compared_none xs ys = (λ none. refl, λ same. refl)
+-- two sums differ by nothing exactly if they are the same
+pub same_if_none : (xs ys : List ℕ) → length xs ≡ length ys → fold more 0 (zip xs ys) ≡ 0 → xs ≡ ys
+same_if_none xs ys n e = (none_before xs ys 0 n e).1
 
-pub compared_more : (xs ys : List ℕ) (i d e : ℕ) → Compared xs ys i d → i < length xs → i < length ys → e ≡ bit_or d (bit_xor (get_or xs i 0) (get_or ys i 0)) → Compared xs ys (i + 1) e
-unfolding Compared
-compared_more xs ys i d e before hx hy is =
-    (λ none. same_more xs ys i d hx hy before.0 (sym is ∙ none), λ same. is ∙ found_more xs ys i d hx hy before.1 same)
-
--- all bytes were compared
-pub same_all : (xs ys : List ℕ) (i d : ℕ) → Compared xs ys i d → length xs ≤ i → length ys ≤ i → d ≡ 0 → xs ≡ ys
-unfolding Compared
-same_all xs ys i d before hx hy none = sym (take_all i xs hx) ∙ before.0 none ∙ take_all i ys hy
-
-pub found_all : (xs ys : List ℕ) (i d : ℕ) → Compared xs ys i d → xs ≡ ys → d ≡ 0
-unfolding Compared
-found_all xs ys i d before e = before.1 (ap (take i) e)
-
-pub ruleset comparing = (compared_none, compared_more, same_all, found_all)
+pub none_if_same : (xs ys : List ℕ) → xs ≡ ys → fold more 0 (zip xs ys) ≡ 0
+none_if_same xs ys e = ap (λ zs. fold more 0 (zip xs zs)) (sym e) ∙ none_along xs 0 refl

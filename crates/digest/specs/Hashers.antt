@@ -1,6 +1,6 @@
 -- What a hasher, a prepared key and a message code in the making stand for.
 -- Assumes nothing.
-use Rattle.std.specs.Prelude.{◌≡◌, ℕ, ◌*◌, ◌^◌, ◌<◌, cond, List, ◌++◌, length, take, Ok, Err, Result, nat_lt}
+use Rattle.std.specs.Prelude.{◌≡◌, ℕ, ◌+◌, ◌*◌, ◌^◌, ◌<◌, cond, List, ◌++◌, length, take, Ok, Err, Result, nat_lt}
 use Rattle.digest.specs.declared.state.Fault.{Fault}
 use Rattle.digest.specs.declared.state.Fault.TheVariants.{TooLong}
 use Rattle.digest.specs.declared.state.Hasher.{Hasher}
@@ -20,6 +20,11 @@ pub record Holds (h : Hasher) (message : List ℕ) : Type 0 where
   pub state : h.state ≡ hashed blocks initial_hash front
   pub buffer : take (length rest) h.block ≡ rest
   pub total : h.total ≡ length message
+
+-- A hasher has taken a part more: it counts the part, and holds it after each message that it held.
+pub record Absorbs (before after : Hasher) (part : List ℕ) : Type 0 where
+  pub total : after.total ≡ before.total + length part
+  pub holds : (message : List ℕ) → Holds before message → Holds after (message ++ part)
 
 -- RFC 6234, 4: a message has fewer than 2^64 bits. What is longer is refused.
 abbrev pub limited : {T : Type 0} → ℕ → T → Result T Fault

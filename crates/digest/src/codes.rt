@@ -1,6 +1,6 @@
 // HMAC-SHA-256 under a 32-byte key, of a message that comes in parts.
 ghost use Rattle.std.specs.Prelude.{◌≡◌, ℕ, ◌+◌, true, false, List, [], ◌++◌, map, length, replicate, is_ok, if◌then◌else◌, bit_xor};
-ghost use Rattle.digest.specs.Hashers.{Holds, Prepared, Taken, limited};
+ghost use Rattle.digest.specs.Hashers.{Prepared, Taken, limited};
 ghost use Rattle.digest.specs.Hmac.{hmac as hmac-of};
 ghost use Rattle.digest.specs.Sha256.{initial_hash, compressed};
 
@@ -12,9 +12,10 @@ use sha::compress;
 fn padded_key(key: &[u8; 32], pad: u8) -> [u8; 64]
     ensures { result ≡ map (λ b. bit_xor b pad) (key.now ++ replicate 32 0) }
 {
-    let mut block = [pad; 64];
-    for i in 0..32 {
-        block[i] = key[i] ^ pad;
+    let mut block = [0; 64];
+    block[..32].copy_from_slice(key);
+    for b in block.iter_mut() {
+        *b ^= pad;
     }
     block
 }
@@ -28,37 +29,18 @@ fn hashed_block(block: &[u8; 64]) -> [u32; 8]
     h
 }
 
-// A hasher that has taken one block, by the hash value after it.
-fn resumed(state: [u32; 8]) -> Hasher
-    ensures state { result.state ≡ state }
-    ensures total { result.total ≡ 64 }
-    ensures holds { (block : List ℕ) → length block ≡ 64 → state ≡ compressed initial_hash block → Holds result block }
-{
-    Hasher {
-        state,
-        block: [0; 64],
-        total: 64,
-    }
-}
-
-// The key of two padded keys.
-fn key_of(inner: &[u8; 64], outer: &[u8; 64]) -> Key
-    ensures inner { result.inner ≡ compressed initial_hash inner.now }
-    ensures outer { result.outer ≡ compressed initial_hash outer.now }
-{
-    Key {
-        inner: hashed_block(inner),
-        outer: hashed_block(outer),
-    }
-}
-
 impl Key {
     /// Prepares a key for many messages.
     #[tactic(auto, using(crate::proofs::Keys::padded))]
     pub fn new(key: &[u8; 32]) -> Self
         ensures { Prepared result key.now }
     {
-        key_of(&padded_key(key, 0x36), &padded_key(key, 0x5c))
+        let inner = padded_key(key, 0x36);
+        let outer = padded_key(key, 0x5c);
+        Key {
+            inner: hashed_block(&inner),
+            outer: hashed_block(&outer),
+        }
     }
 
     /// Begins the code of a message under this key.
@@ -67,7 +49,7 @@ impl Key {
         ensures taken { (key : List ℕ) → Prepared self.now key → Taken result key [] }
     {
         Mac {
-            inner: resumed(self.inner),
+            inner: Hasher::resumed(self.inner, 64),
             outer: self.outer,
         }
     }
@@ -79,7 +61,7 @@ impl Mac {
         ensures state { result.state ≡ self.now.outer }
         ensures total { result.total ≡ 64 }
     {
-        resumed(self.outer)
+        Hasher::resumed(self.outer, 64)
     }
 
     /// Takes a part of the message, of any length. It is refused, and nothing changes, where the

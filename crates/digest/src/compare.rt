@@ -1,22 +1,22 @@
 // A comparison of two sums whose time does not tell where they differ.
-ghost use Rattle.std.specs.Prelude.{◌≡◌, true, bit_or, bit_xor};
+ghost use Rattle.std.specs.Prelude.{◌≡◌, true, fold, zip, bit_or, bit_xor};
 
-// What two bytes differ by, beside what others before them did.
-fn differing(before: u8, a: u8, b: u8) -> u8
-    ensures { result ≡ bit_or before (bit_xor a b) }
+// What two sums differ by, over all their bytes.
+fn difference(a: &[u8; 16], b: &[u8; 16]) -> u8
+    ensures { result ≡ fold (λ d p. bit_or d (bit_xor p.0 p.1)) 0 (zip a.now b.now) }
 {
-    before | (a ^ b)
+    a.iter().zip(b).fold(
+        0,
+        |differ, (a, b)|
+            ensures { result ≡ bit_or differ (bit_xor a.entry.now b.entry.now) }
+        { differ | (*a ^ *b) },
+    )
 }
 
 /// Whether two sums are equal. All sixteen bytes are compared, whatever the first of them are.
-#[tactic(auto, using(crate::proofs::Sums::comparing))]
 pub fn same_sum(a: &[u8; 16], b: &[u8; 16]) -> bool
     ensures same { result ≡ true → a.now ≡ b.now }
     ensures found { a.now ≡ b.now → result ≡ true }
 {
-    let mut differ = 0u8;
-    for i in 0..16 {
-        differ = differing(differ, a[i], b[i]);
-    }
-    differ == 0
+    difference(a, b) == 0
 }

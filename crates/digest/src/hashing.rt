@@ -1,8 +1,7 @@
 // SHA-256 of a message that comes in parts.
-ghost use Rattle.std.specs.Prelude.{◌≡◌, ℕ, ◌+◌, ◌*◌, ◌%◌, ◌^◌, ◌<◌, ◌≤◌, true, false, List, [], ◌++◌, length, take, is_ok, if◌then◌else◌};
-ghost use borrow.Rule.Slice.PartMut.{put_mid};
-ghost use Rattle.digest.specs.Hashers.{Holds, limited};
-ghost use Rattle.digest.specs.Sha256.{padding, end_of, last_hash, sha256 as sha256-of};
+ghost use Rattle.std.specs.Prelude.{◌≡◌, ℕ, ◌+◌, ◌-◌, ◌*◌, ◌%◌, ◌^◌, ◌<◌, ◌≤◌, true, false, List, [], ◌∷◌, ◌++◌, length, take, replicate, is_ok, if◌then◌else◌};
+ghost use Rattle.digest.specs.Hashers.{Absorbs, Holds, limited};
+ghost use Rattle.digest.specs.Sha256.{length_bytes, compressed, last_hash, sha256 as sha256-of};
 
 use crate::state::{Fault, Hasher};
 use crate::values::{initial, serialize};
@@ -11,22 +10,6 @@ use sha::compress;
 // RFC 6234, 4: a message has fewer than 2^64 bits, so fewer than 2^61 bytes.
 const LIMIT: u64 = 0x2000_0000_0000_0000;
 
-// Writes a piece over the bytes from `at` on.
-fn put(out: &mut [u8], at: usize, piece: &[u8])
-    requires { at + length piece.now ≤ length out.old }
-    ensures { out.new ≡ put_mid at (length piece.now) out.old piece.now }
-{
-    out[at..at + piece.len()].copy_from_slice(piece);
-}
-
-// How many bytes the last blocks of a message have: one block if there is room for the length.
-fn end_of(total: u64) -> usize
-    ensures end { result ≡ end_of total }
-    ensures room { (total % 64 + 9 ≤ result) × (result ≤ 128) }
-{
-    if total % 64 < 56 { 64 } else { 128 }
-}
-
 // The length of a message in bits.
 fn bits(total: u64) -> u64
     ensures { result ≡ (total * 8) % 2 ^ 64 }
@@ -34,79 +17,99 @@ fn bits(total: u64) -> u64
     total.wrapping_mul(8)
 }
 
-// The last block of a message, or the last two: the rest, a bit 1, zeros, and the length in bits.
-fn last_blocks(block: &[u8; 64], total: u64) -> [u8; 128]
-    ensures { take (end_of total) result ≡ take (total % 64) block.now ++ padding total }
+// A block of the first bytes of another, a bit 1, and zeros.
+fn marked(block: &[u8; 64], fill: usize) -> [u8; 64]
+    requires { fill < 64 }
+    ensures { result ≡ take fill block.now ++ (128 ∷ replicate (63 - fill) 0) }
 {
-    let fill = (total % 64) as usize;
-    let end = end_of(total);
-    let mut last = [0; 128];
-    put(&mut last, 0, &block[0..fill]);
-    last[fill] = 128;
-    put(&mut last, end - 8, &bits(total).to_be_bytes());
+    let mut marked = [0; 64];
+    marked[..fill].copy_from_slice(&block[..fill]);
+    marked[fill] = 128;
+    marked
+}
+
+// A last block, with the length of the message in bits at its end.
+fn with_length(block: [u8; 64], total: u64) -> [u8; 64]
+    ensures { result ≡ take 56 block ++ length_bytes (8 * total) }
+{
+    let mut last = block;
+    last[56..].copy_from_slice(&bits(total).to_be_bytes());
     last
 }
 
-// A hasher that has taken nothing, by the hash value that it starts from.
-fn blank(state: [u32; 8]) -> Hasher
-    ensures state { result.state ≡ state }
-    ensures total { result.total ≡ 0 }
+// The hash value after a last block.
+fn ended(h: &[u32; 8], block: [u8; 64], total: u64) -> [u32; 8]
+    ensures { result ≡ compressed h.now (take 56 block ++ length_bytes (8 * total)) }
 {
-    Hasher {
-        state,
-        block: [0; 64],
-        total: 0,
-    }
+    let mut end = *h;
+    compress(&mut end, &with_length(block, total));
+    end
 }
 
 impl Hasher {
+    // A hasher that has taken whole blocks, by the hash value after them and how many bytes they have.
+    pub(crate) fn resumed(state: [u32; 8], total: u64) -> Hasher
+        ensures state { result.state ≡ state }
+        ensures total { result.total ≡ total }
+    {
+        Hasher {
+            state,
+            block: [0; 64],
+            total,
+        }
+    }
+
     // Takes a piece that the buffer has room for.
     pub(crate) fn absorb(&mut self, piece: &[u8])
         requires { (self.old.total % 64 + length piece.now ≤ 64) × (self.old.total + length piece.now < 2 ^ 64) }
-        ensures total { self.new.total ≡ self.old.total + length piece.now }
-        ensures holds { (m : List ℕ) → Holds self.old m → Holds self.new (m ++ piece.now) }
+        ensures { Absorbs self.old self.new piece.now }
     {
         let fill = (self.total % 64) as usize;
-        if piece.len() == 64 {
-            compress(&mut self.state, piece);
-            self.total += 64;
-            return;
-        }
-        put(&mut self.block, fill, piece);
+        let end = fill + piece.len();
+        self.block[fill..end].copy_from_slice(piece);
         self.total += piece.len() as u64;
-        if fill + piece.len() < 64 {
-            return;
+        if end == 64 {
+            compress(&mut self.state, &self.block);
         }
-        compress(&mut self.state, &self.block);
     }
 
-    // Takes a part of any length.
+    // Takes a whole block, where the buffer is empty.
+    fn absorb_block(&mut self, block: &[u8; 64])
+        requires { (self.old.total % 64 ≡ 0) × (self.old.total + 64 < 2 ^ 64) }
+        ensures total { self.new.total ≡ self.old.total + 64 }
+        ensures absorbs { Absorbs self.old self.new block.now }
+    {
+        compress(&mut self.state, block);
+        self.total += 64;
+    }
+
+    // Takes a part of any length: what ends the block in the buffer, whole blocks, and the rest.
     fn feed(&mut self, part: &[u8])
         requires { self.old.total + length part.now < 2 ^ 64 }
-        ensures total { self.new.total ≡ self.old.total + length part.now }
-        ensures holds { (m : List ℕ) → Holds self.old m → Holds self.new (m ++ part.now) }
+        ensures { Absorbs self.old self.new part.now }
     {
-        let mut at = 0;
-        while at < part.len() {
-            let room = 64 - (self.total % 64) as usize;
-            let end = at + room.min(part.len() - at);
-            self.absorb(&part[at..end]);
-            at = end;
+        let room = (64 - self.total % 64) as usize % 64;
+        let (first, others) = part.split_at(part.len().min(room));
+        self.absorb(first);
+        let (blocks, rest) = others.as_chunks();
+        for block in blocks {
+            self.absorb_block(block);
         }
+        self.absorb(rest);
     }
 
     // The hash value after the padded message.
     fn close(&self) -> [u32; 8]
         ensures { (m : List ℕ) → Holds self.now m → result ≡ last_hash m }
     {
-        let last = last_blocks(&self.block, self.total);
-        let mut h = self.state;
-        compress(&mut h, &last[0..64]);
-        if end_of(self.total) == 64 {
-            return h;
+        let fill = (self.total % 64) as usize;
+        let last = marked(&self.block, fill);
+        if fill < 56 {
+            return ended(&self.state, last, self.total);
         }
-        compress(&mut h, &last[64..128]);
-        h
+        let mut h = self.state;
+        compress(&mut h, &last);
+        ended(&h, [0; 64], self.total)
     }
 
     /// A hasher that holds the empty message.
@@ -114,7 +117,7 @@ impl Hasher {
         ensures total { result.total ≡ 0 }
         ensures holds { Holds result [] }
     {
-        blank(initial())
+        Hasher::resumed(initial(), 0)
     }
 
     /// Takes a part of the message, of any length. It is refused, and nothing changes, where the

@@ -1,14 +1,18 @@
 // What hashing keeps between calls.
+use thiserror::Error;
 
 /// What hashing refuses.
-#[derive(Clone, Copy, PartialEq, Eq, Debug)]
+#[derive(Clone, Copy, PartialEq, Eq, Debug, Error)]
 pub enum Fault {
     /// The message would have 2^64 bits or more.
+    #[error("the message would have 2^64 bits or more")]
     TooLong,
 }
 
 /// A SHA-256 in the making: the hash value after all whole blocks, a buffer for the rest, and how
 /// many bytes were taken.
+// Messages can share a hash value, so no model of a hasher names the one that was taken: a clause
+// speaks of each message that the hasher holds, and likewise of each key that a `Key` was made of.
 #[derive(Clone, Copy)]
 pub struct Hasher {
     pub(crate) state: [u32; 8],
@@ -18,6 +22,7 @@ pub struct Hasher {
 
 /// An HMAC-SHA-256 key, prepared once for many messages: the hash values after the inner and the
 /// outer padded key.
+// C makes room for it and lends it, so it is plain data that is right whatever stands in it.
 #[derive(Clone, Copy)]
 #[repr(C)]
 pub struct Key {

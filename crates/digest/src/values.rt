@@ -1,9 +1,9 @@
 // Hash values: the initial one, and one as bytes.
-ghost use Rattle.std.specs.Prelude.{◌≡◌, ◌*◌, ◌<◌};
-ghost use borrow.Rule.Slice.PartMut.{put_mid};
-ghost use Rattle.digest.specs.Sha256.{initial_hash, word_bytes, serialized};
+ghost use Rattle.std.specs.Prelude.{◌≡◌};
+ghost use Rattle.digest.specs.Sha256.{initial_hash, serialized};
 
 // The initial hash value.
+#[tactic(auto, unfolding(crate::specs::Sha256::initial_hash))]
 pub(crate) fn initial() -> [u32; 8]
     ensures { result ≡ initial_hash }
 {
@@ -13,21 +13,11 @@ pub(crate) fn initial() -> [u32; 8]
     ]
 }
 
-// Writes a word over the i-th four bytes, the high byte first.
-fn put_word(out: &mut [u8; 32], i: usize, w: u32)
-    requires { i < 8 }
-    ensures { out.new ≡ put_mid (4 * i) 4 out.old (word_bytes w) }
-{
-    out[4 * i..4 * i + 4].copy_from_slice(&w.to_be_bytes());
-}
-
 // The bytes of a hash value.
 pub(crate) fn serialize(h: &[u32; 8]) -> [u8; 32]
     ensures { result ≡ serialized h.now }
 {
     let mut out = [0; 32];
-    for i in 0..8 {
-        put_word(&mut out, i, h[i]);
-    }
+    out.copy_from_slice(h.map(u32::to_be_bytes).as_flattened());
     out
 }

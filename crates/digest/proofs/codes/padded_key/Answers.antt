@@ -1,16 +1,15 @@
-use Rattle.std.proofs.Common.{◌≡◌, ◌++◌, map, get_or, take, drop, set, replicate, ap, ◌∙◌, arith}
+use Rattle.std.proofs.Common.{List, ℕ, ◌++◌, map, replicate, ap, ◌∙◌, arith, length-append}
 use lib.Bits.{bit_xor}
-use Rattle.digest.proofs.Keys.{pad_more, pad_all}
+use Rattle.digest.proofs.Keys.{turned_more, turned_all}
 use Rattle.digest.proofs.codes.padded_key.Goals as goal
 
-pub loop-i-preserved : goal.loop-i-preserved
-loop-i-preserved c =
-    ap (λ b. set b c.loop-i.i (bit_xor (get_or c.args.key.now c.loop-i.i 0) c.args.pad)) c.loop-i.invariant
-    ∙ pad_more (λ b. bit_xor b c.args.pad) c.args.key.now (replicate 64 c.args.pad) c.loop-i.i (omega arith) (omega arith)
+pub loop-b-preserved : goal.loop-b-preserved
+loop-b-preserved c =
+    let key : List ℕ = c.copy_from_slice.new.self in
+    turned_more (λ b. bit_xor b c.args.pad) (key ++ replicate 32 0) c.loop-b.b-items c.loop-b.b-index (omega (arith, length-append key (replicate 32 0))) c.loop-b.invariant
 
 pub returns : goal.returns
 returns c =
-    let end : c.loop-i.i ≡ 32 = omega arith in
-    c.loop-i.invariant
-    ∙ ap (λ k. map (λ b. bit_xor b c.args.pad) (take k c.args.key.now) ++ drop k (replicate 64 c.args.pad)) end
-    ∙ pad_all c.args.pad c.args.key.now (omega arith)
+    let key : List ℕ = c.copy_from_slice.new.self in
+    turned_all (λ b. bit_xor b c.args.pad) (key ++ replicate 32 0) c.loop-b.b-items c.loop-b.b-index (omega (arith, length-append key (replicate 32 0))) c.loop-b.invariant
+    ∙ ap (λ k. map (λ b. bit_xor b c.args.pad) (k ++ replicate 32 0)) c.copy_from_slice.ensures.after

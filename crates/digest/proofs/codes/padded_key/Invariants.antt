@@ -2,5 +2,5 @@ use Rattle.std.proofs.Common.{◌≡◌, ◌++◌, map, take, drop}
 use lib.Bits.{bit_xor}
 use Rattle.digest.proofs.codes.padded_key.Given as goal
 
-abbrev pub invariant-loop-i : goal.invariant-loop-i
-invariant-loop-i l = l.block ≡ map (λ b. bit_xor b l.pad) (take l.i l.key) ++ drop l.i l.initial.block
+abbrev pub invariant-loop-b : goal.invariant-loop-b
+invariant-loop-b l = l.b-items ≡ map (λ b. bit_xor b l.pad) (take l.b-index l.initial.b-items) ++ drop l.b-index l.initial.b-items

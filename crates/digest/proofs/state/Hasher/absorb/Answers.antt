@@ -1,26 +1,15 @@
-use Rattle.std.proofs.Common.{refl, arith}
-use Rattle.digest.proofs.Messages.{holds-part, holds-whole, holds_full}
+use Rattle.std.proofs.Common.{◌≡◌, ◌+◌, ◌-◌, ◌%◌, length, refl, ap₂, arith}
+use borrow.Rule.Slice.PartMut.{put_mid}
+use Rattle.digest.proofs.Messages.{holds-part, holds_full}
 use Rattle.digest.proofs.state.Hasher.absorb.Goals as goal
 
-pub returns-then-piece-eq64 : goal.returns-then-piece-eq64
-returns-then-piece-eq64 c =
-    record {
-      total = omega arith;
-      holds = λ m h. holds-whole c.args.self.now _ m c.args.piece.now h (omega arith) (omega arith) c.compress.ensures refl;
-    }
-
-pub returns-then-fill-piece-lt64 : goal.returns-then-fill-piece-lt64
-returns-then-fill-piece-lt64 c =
+pub returns-then-end-eq64 : goal.returns-then-end-eq64
+returns-then-end-eq64 c =
+    let h = c.args.self.now in
+    let n : h.total % 64 + length c.args.piece.now - h.total % 64 ≡ length c.args.piece.now = omega arith in
     record {
       total = refl;
-      holds = λ m h. holds-part c.args.self.now _ m c.args.piece.now h (omega arith) (omega arith) refl c.put.ensures refl;
-    }
-
-pub returns : goal.returns
-returns c =
-    record {
-      total = refl;
-      holds = λ m h.
-          holds_full c.args.self.now _ m c.args.piece.now c.put.new.out h (omega arith) (omega arith) c.put.ensures (omega arith)
-          c.compress-2.ensures refl;
+      holds = λ m r.
+          holds_full h _ m c.args.piece.now _ r (omega arith) (omega arith)
+          (ap₂ (λ k x. put_mid (h.total % 64) k h.block x) n c.copy_from_slice.ensures.after) (omega arith) c.compress.ensures refl;
     }

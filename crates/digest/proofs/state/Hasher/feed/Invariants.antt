@@ -1,11 +1,11 @@
-use Rattle.std.proofs.Common.{◌≡◌, ℕ, ◌+◌, ◌-◌, ◌≤◌, List, ◌++◌, length, take}
-use Rattle.digest.specs.Hashers.{Holds}
+use Rattle.std.proofs.Common.{◌≡◌, ◌+◌, ◌*◌, take}
+use Rattle.std.specs.List.{concat}
+use Rattle.digest.specs.Hashers.{Absorbs}
 use Rattle.digest.proofs.state.Hasher.feed.Given as goal
 
-abbrev pub invariant-loop-at : goal.invariant-loop-at
-invariant-loop-at l =
-    (l.at ≤ length l.part) × (l.self.total ≡ l.initial.self.total + l.at)
-    × ((m : List ℕ) → Holds l.initial.self m → Holds l.self (m ++ take l.at l.part))
-
-abbrev pub decreases-loop-at : goal.decreases-loop-at
-decreases-loop-at l = length l.part - l.at
+abbrev pub invariant-loop-block : goal.invariant-loop-block
+invariant-loop-block l =
+    record {
+      total : l.self.total ≡ l.initial.self.total + 64 * l.block-index;
+      absorbs : Absorbs l.initial.self l.self (concat (take l.block-index l.blocks))
+    }
