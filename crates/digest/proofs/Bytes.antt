@@ -1,5 +1,5 @@
 -- Words as bytes, one after the other.
-use Rattle.std.proofs.Common.{◌≡◌, ℕ, suc, ◌<◌, List, [], ◌∷◌, length, get_or, refl, ap₂, ◌++◌, arith, lit<}
+use Rattle.std.proofs.Common.{◌≡◌, ℕ, suc, ◌<◌, List, [], ◌∷◌, length, get_or, refl, ap₂, ◌++◌, arith}
 use Rattle.std.specs.List.{flat_map}
 use Rattle.digest.specs.Sha256.{word_bytes, serialized}
 

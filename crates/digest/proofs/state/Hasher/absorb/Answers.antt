@@ -1,6 +1,6 @@
 use Rattle.std.proofs.Common.{◌≡◌, ◌+◌, ◌-◌, ◌%◌, length, refl, ap₂, arith}
 use borrow.Rule.Slice.PartMut.{put_mid}
-use Rattle.digest.proofs.Messages.{holds-part, holds_full}
+use Rattle.digest.proofs.Messages.{holds_full}
 use Rattle.digest.proofs.state.Hasher.absorb.Goals as goal
 
 pub returns-then-end-eq64 : goal.returns-then-end-eq64

@@ -1,4 +1,4 @@
-use Rattle.std.proofs.Common.{take, refl, arith}
+use Rattle.std.proofs.Common.{take, arith}
 use Rattle.std.specs.List.{concat}
 use Rattle.digest.proofs.Messages.{absorbs_none, absorbs_more, absorbs_all, part_is}
 use Rattle.digest.proofs.state.Hasher.feed.Goals as goal

@@ -7,5 +7,5 @@ abbrev pub invariant-loop-block : goal.invariant-loop-block
 invariant-loop-block l =
     record {
       total : l.self.total ≡ l.initial.self.total + 64 * l.block-index;
-      absorbs : Absorbs l.initial.self l.self (concat (take l.block-index l.blocks))
+      absorbs : Absorbs l.initial.self l.self (concat (take l.block-index l.blocks));
     }
