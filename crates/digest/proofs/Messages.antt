@@ -195,9 +195,9 @@ closed_two h m last r full e long =
     sym (closed h m r 2 (end_two h.total full) ∙ ap₂ (λ x y. compressed (compressed h.state x) y) first second)
 
 -- a new hasher holds nothing
-pub holds-none : (h : Hasher) → h.state ≡ initial_hash → h.total ≡ 0 → Holds h []
+pub holds_none : (h : Hasher) → h.state ≡ initial_hash → h.total ≡ 0 → Holds h []
 unfolding hashed
-holds-none h hs ht =
+holds_none h hs ht =
     record { blocks = 0; front = []; rest = []; joined = refl; whole = refl; few = omega arith; state = hs; buffer = refl; total = ht }
 
 -- a hasher with the state after one block holds that block

@@ -14,6 +14,7 @@ fn difference(a: &[u8; 16], b: &[u8; 16]) -> u8
 }
 
 /// Whether two sums are equal. All sixteen bytes are compared, whatever the first of them are.
+#[tactic(auto, using(crate::proofs::Sums::same_if_none))]
 pub fn same_sum(a: &[u8; 16], b: &[u8; 16]) -> bool
     ensures same { result ≡ true → a.now ≡ b.now }
     ensures found { a.now ≡ b.now → result ≡ true }

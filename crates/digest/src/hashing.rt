@@ -113,6 +113,7 @@ impl Hasher {
     }
 
     /// A hasher that holds the empty message.
+    #[tactic(auto, using(crate::proofs::Messages::holds_none))]
     pub fn new() -> Self
         ensures total { result.total ≡ 0 }
         ensures holds { Holds result [] }
@@ -136,6 +137,7 @@ impl Hasher {
     }
 
     /// The SHA-256 of the message that was taken.
+    #[tactic(auto, unfolding(crate::specs::Sha256::sha256))]
     pub fn finish(&self) -> [u8; 32]
         ensures { (m : List ℕ) → Holds self.now m → result ≡ sha256-of m }
     {
