@@ -1,78 +1,103 @@
--- What a loop over places knows of those that it has passed, and what it finds and leaves in the end. Assumes nothing.
-use Rattle.std.proofs.Common.{◌≡◌, ℕ, zero, suc, ◌+◌, ◌<◌, ◌≤◌, Bool, true, false, List, [], ◌∷◌, ◌++◌, map, length, get_or, take, drop, set, Some, None, Option, sym, refl, ap, ◌∙◌, subst, append-nil, suc-le-suc, arith, length-append, length-drop, length-take}
-use Rattle.std.proofs.lemmas.Bool.{cond-true, cond-false}
-use Rattle.std.proofs.lemmas.List.{take_all, drop_all, get_or_default, length-map}
-use Rattle.std.proofs.lemmas.List.Edits.{map_over_more}
-use Rattle.gateway.specs.Slots.{first_that, replaced}
+-- What chains over places find, and what a change in the first place that passes a test leaves. Assumes nothing.
+use Rattle.std.proofs.Common.{◌≡◌, ℕ, Bool, true, false, cond, List, [], ◌∷◌, Some, None, Option, is_some, sym, refl, ap, ◌∙◌, subst, Bor, arith, zero, suc, ◌+◌, ◌<◌, map, length, get_or, set, ltb}
+use Rattle.std.proofs.lemmas.Iterator.{YieldsList}
+use Rattle.std.proofs.lemmas.Iterator.Search.{find_from_yields_List, any_from_yields_List}
+use Rattle.std.proofs.lemmas.Iterator.Adapters.{YieldsList-from_flatten, YieldsList-from_once, option_map_id}
+use Rattle.std.proofs.lemmas.Iterator.Consumers.{YieldsList-from_shown, YieldsList-at}
+use denote.Param.Members.{Mut}
+use Rattle.std.specs.Bool.{⊤}
+use Rattle.std.proofs.lemmas.Bool.{cond-true, cond-false, ltb-false}
+use Rattle.std.proofs.lemmas.List.Sums.{fails_before_first}
+use Rattle.std.proofs.lemmas.List.Quantifiers.{position-Some}
+use Rattle.std.proofs.lemmas.List.{same_lists, get_or-map, length-map}
+use Rattle.std.specs.Array.{MapsFrom, IsMapOf}
+use Rattle.std.specs.Array.Iter.{array_steps, array_into_iter_items}
+use Rattle.std.specs.Fn.{Called, CalledAt}
+use Rattle.std.specs.Iterator.{YieldsThen}
+use Rattle.std.specs.Iterator.Adapters.{once_item, once_steps, flatten_source, flatten_front, flatten_back, flatten_done, flatten_steps}
+use Rattle.std.specs.List.{find, flat_map, list_any, FoldsTo, position, position_or_len}
+use Rattle.std.specs.Option.{option_to_list, MatchOption}
+use Rattle.std.specs.declared.array.IntoIter.{IntoIter}
+use Rattle.std.specs.declared.iter.Flatten.{Flatten}
+use Rattle.std.specs.declared.iter.Once.{Once}
+use Rattle.gateway.specs.Slots.{first_that, replaced, holds}
 
--- what stands in a place does not pass a test
-abbrev pub Fails : {A : Type 0} → (A → Bool) → Option A → Type 0
-Fails p None = Unit {0}
-Fails p (Some x) = p x ≡ false
+find_that : {A : Type 0} (p : A → Bool) (xs : List (Option A)) → find p (flat_map option_to_list xs) ≡ first_that p xs
+unfolding first_that
+find_that p [] = refl
+find_that p (None ∷ xs) = find_that p xs
+find_that p (Some x ∷ xs) = ap (cond (p x) (Some x)) (find_that p xs)
 
--- nothing in the first n places passes a test
-abbrev pub Passed : {A : Type 0} → (A → Bool) → List (Option A) → ℕ → Type 0
-Passed p xs n = (k : ℕ) → k < n → Fails p (get_or xs k None)
+any_that : {A : Type 0} (p : A → Bool) (xs : List (Option A)) → list_any p (flat_map option_to_list xs) ≡ is_some (first_that p xs)
+unfolding first_that
+any_that p [] = refl
+any_that p (None ∷ xs) = any_that p xs
+any_that p (Some x ∷ xs) = grind (arith, any_that p xs)
 
-fails_none : {A : Type 0} (p : A → Bool) (o : Option A) → o ≡ None → Fails p o
-fails_none p o e = subst (Fails p) (sym e) tt
+-- the holders of places, one by one
+road : {A : Type 0} {n : ℕ} {s : Flatten (IntoIter (Option A) n) (Once A)} (becomes : Option A → Once A → Type 0) → ((o : Option A) (j : Once A) → becomes o j → once_item j ≡ o) →
+    (it : IntoIter (Option A) n) → flatten_source s ≡ it → flatten_front s ≡ None → flatten_back s ≡ None → flatten_done s ≡ false →
+    YieldsList (flatten_steps array_steps becomes once_steps) (λ x. x) s (flat_map option_to_list (array_into_iter_items it))
+road becomes is it source front back done =
+    YieldsList-from_flatten becomes _ (λ x. x) option_to_list (λ o j b. YieldsList-from_once o (is o j b))
+    (YieldsList-at source (YieldsList-from_shown array_steps (λ x. x) array_into_iter_items (λ s t e. e.0) (λ s x t e. e) it)) front back done
 
-pub fails_some : {A : Type 0} (p : A → Bool) (o : Option A) (x : A) → o ≡ Some x → p x ≡ false → Fails p o
-fails_some p o x e f = subst (Fails p) (sym e) f
+-- a search among them finds the first that passes
+pub find_first : {A F : Type 0} {n : ℕ} {s : Flatten (IntoIter (Option A) n) (Once A)} {g : Mut F (Bor A × Unit {0}) Bool} (test : A → Bool) (u : Flatten (IntoIter (Option A) n) (Once A)) (f : F) (r : Option A) (becomes : Option A → Once A → Type 0) (it : IntoIter (Option A) n) (xs : List (Option A)) →
+    (ys : List A) × (j : F) × YieldsThen (flatten_steps array_steps becomes once_steps) s ys r u × FoldsTo (λ p x q. CalledAt g p x false q) f ys j × MatchOption r ⊤ (λ x. (h : F) × CalledAt g j x true h) →
+    ((o : Option A) (j : Once A) → becomes o j → once_item j ≡ o) → flatten_source s ≡ it → array_into_iter_items it ≡ xs → flatten_front s ≡ None → flatten_back s ≡ None → flatten_done s ≡ false →
+    ((x : A) (b : Bool) (q : F) → CalledAt g f x b q → (q ≡ f) × (b ≡ test x)) → r ≡ first_that test xs
+find_first test u f r becomes it xs ran is source items front back done calls =
+    sym (option_map_id r) ∙ find_from_yields_List test u f r ran (road becomes is it source front back done) calls ∙ find_that test (array_into_iter_items it) ∙ ap (first_that test) items
 
--- in an empty place nothing passes
-pub fails_empty : {A : Type 0} (p : A → Bool) (o : Option A) → ((x : A) → o ≡ Some x → ⊥) → Fails p o
-fails_empty p None h = tt
-fails_empty p (Some x) h = absurd (h x refl)
+pub any_first : {A F : Type 0} {n : ℕ} {s : Flatten (IntoIter (Option A) n) (Once A)} {g : Mut F (A × Unit {0}) Bool} (test : A → Bool) (u : Flatten (IntoIter (Option A) n) (Once A)) (f : F) (r : Bool) (becomes : Option A → Once A → Type 0) (it : IntoIter (Option A) n) (xs : List (Option A)) →
+    (ys : List A) × (o : Option A) × (j : F) × YieldsThen (flatten_steps array_steps becomes once_steps) s ys o u × FoldsTo (λ p x q. Called g p (x, tt) false q) f ys j × MatchOption o (r ≡ false) (λ x. (r ≡ true) × ((h : F) × Called g j (x, tt) true h)) →
+    ((o : Option A) (j : Once A) → becomes o j → once_item j ≡ o) → flatten_source s ≡ it → array_into_iter_items it ≡ xs → flatten_front s ≡ None → flatten_back s ≡ None → flatten_done s ≡ false →
+    ((x : A) (b : Bool) (q : F) → Called g f (x, tt) b q → (q ≡ f) × (b ≡ test x)) → r ≡ is_some (first_that test xs)
+any_first test u f r becomes it xs ran is source items front back done calls =
+    any_from_yields_List test u f r ran (road becomes is it source front back done) calls ∙ any_that test (array_into_iter_items it) ∙ ap (λ ys. is_some (first_that test ys)) items
 
-module _ {A : Type 0} (p : A → Bool) where
-  not_some : (x : A) → ◌≡◌ {A = Option A} None (Some x) → ⊥
-  not_some x e = let z : ◌≡◌ {A = ℕ} 0 1 = cc in omega arith
+-- A map of an array, at each place of it and as a list.
+module _ {A B F : Type 0} {g : Mut F (A × Unit {0}) B} (h : A → B) (f : F) (xs : List A) (ys : List B) (calls : (x : A) (y : B) (q : F) → Called g f (x, tt) y q → (q ≡ f) × (y ≡ h x)) where
+  mapped_at : (n i k j : ℕ) → MapsFrom g f xs ys i n → k < n → j ≡ i + k → (x : A) × ((d : A) → get_or xs j d ≡ x) × ((e : B) → get_or ys j e ≡ h x)
+  mapped_at zero i k j m l s = absurd (omega arith)
+  mapped_at (suc n) i zero j (q, x, y, p, r, c, m) l s =
+      let same : i ≡ j = omega arith in (x, λ d. ap (λ z. get_or xs z d) (sym same) ∙ p.1 d, λ e. ap (λ z. get_or ys z e) (sym same) ∙ r.1 e ∙ (calls x y q c).1)
+  mapped_at (suc n) i (suc k) j (q, x, y, p, r, c, m) l s =
+      mapped_at n (i + 1) k j (subst (λ t. MapsFrom g t xs ys (i + 1) n) (calls x y q c).0 m) (omega arith) (omega arith)
 
-  later : (x : Option A) (xs : List (Option A)) (n : ℕ) → Passed p (x ∷ xs) (suc n) → Passed p xs n
-  later x xs n h k l = h (suc k) (suc-le-suc l)
+  pub map_places : (n : ℕ) → IsMapOf g f xs ys n → length xs ≡ n → ys ≡ map h xs
+  map_places n m l =
+      same_lists ys (map h xs) (m.long ∙ sym l ∙ sym (length-map xs h))
+      (λ k e j. let p = mapped_at n 0 k k m.each (omega (arith, m.long)) (omega arith) in p.2 e ∙ sym (get_or-map h xs k p.0 e (omega (arith, m.long)) ∙ ap h (p.1 p.0)))
 
-  pub first-at : (xs : List (Option A)) (i : ℕ) (x : A) → Passed p xs i → get_or xs i None ≡ Some x → p x ≡ true → Some x ≡ first_that p xs
-  unfolding first_that
-  first-at [] zero x h e t = absurd (not_some x e)
-  first-at [] (suc i) x h e t = absurd (not_some x e)
-  first-at (None ∷ xs) zero x h e t = absurd (not_some x e)
-  first-at (None ∷ xs) (suc i) x h e t = first-at xs i x (later None xs i h) e t
-  first-at (Some y ∷ xs) zero x h e t = let s : y ≡ x = cc in sym (cond-true (p y) (Some y) (first_that p xs) (ap p s ∙ t) ∙ e)
-  first-at (Some y ∷ xs) (suc i) x h e t =
-      first-at xs i x (later (Some y) xs i h) e t ∙ sym (cond-false (p y) (Some y) (first_that p xs) (h 0 (omega arith)))
+not_true : false ≡ true → ⊥
+not_true e = let z : ◌≡◌ {A = ℕ} 0 1 = ap (λ b. cond b 1 0) e in omega arith
 
-  pub first-all : (xs : List (Option A)) → Passed p xs (length xs) → None ≡ first_that p xs
-  unfolding first_that
-  first-all [] h = refl
-  first-all (None ∷ xs) h = first-all xs (later None xs (length xs) h)
-  first-all (Some y ∷ xs) h = first-all xs (later (Some y) xs (length xs) h) ∙ sym (cond-false (p y) (Some y) (first_that p xs) (h 0 (omega arith)))
-
-  pub replaced-at : (y : A) (xs : List (Option A)) (i : ℕ) (x : A) → Passed p xs i → get_or xs i None ≡ Some x → p x ≡ true → set xs i (Some y) ≡ replaced p y xs
+-- The place of the first that passes a test, and that one replaced.
+module _ {A : Type 0} (p : A → Bool) (y : A) where
+  replaced_from : (xs : List (Option A)) (i : ℕ) → i < length xs → holds p (get_or xs i None) ≡ true → ((k : ℕ) → k < i → holds p (get_or xs k None) ≡ false) → set xs i (Some y) ≡ replaced p y xs
   unfolding replaced
-  replaced-at y [] zero x h e t = absurd (not_some x e)
-  replaced-at y [] (suc i) x h e t = absurd (not_some x e)
-  replaced-at y (None ∷ xs) zero x h e t = absurd (not_some x e)
-  replaced-at y (None ∷ xs) (suc i) x h e t = ap (λ zs. None ∷ zs) (replaced-at y xs i x (later None xs i h) e t)
-  replaced-at y (Some z ∷ xs) zero x h e t = let s : z ≡ x = cc in sym (cond-true (p z) (Some y ∷ xs) (Some z ∷ replaced p y xs) (ap p s ∙ t))
-  replaced-at y (Some z ∷ xs) (suc i) x h e t =
-      ap (λ zs. Some z ∷ zs) (replaced-at y xs i x (later (Some z) xs i h) e t) ∙
-      sym (cond-false (p z) (Some y ∷ xs) (Some z ∷ replaced p y xs) (h 0 (omega arith)))
+  replaced_from [] i l t f = absurd (omega arith)
+  replaced_from (None ∷ xs) zero l t f = absurd (not_true t)
+  replaced_from (None ∷ xs) (suc i) l t f = ap (λ zs. None ∷ zs) (replaced_from xs i (omega arith) t (λ k m. f (suc k) (omega arith)))
+  replaced_from (Some x ∷ xs) zero l t f = sym (cond-true (p x) (Some y ∷ xs) (Some x ∷ replaced p y xs) t)
+  replaced_from (Some x ∷ xs) (suc i) l t f =
+      ap (λ zs. Some x ∷ zs) (replaced_from xs i (omega arith) t (λ k m. f (suc k) (omega arith))) ∙ sym (cond-false (p x) (Some y ∷ xs) (Some x ∷ replaced p y xs) (f 0 (omega arith)))
 
-  pub replaced-all : (y : A) (xs : List (Option A)) → Passed p xs (length xs) → xs ≡ replaced p y xs
+  replaced_none : (xs : List (Option A)) → ((k : ℕ) → k < length xs → holds p (get_or xs k None) ≡ false) → xs ≡ replaced p y xs
   unfolding replaced
-  replaced-all y [] h = refl
-  replaced-all y (None ∷ xs) h = ap (λ zs. None ∷ zs) (replaced-all y xs (later None xs (length xs) h))
-  replaced-all y (Some z ∷ xs) h =
-      ap (λ zs. Some z ∷ zs) (replaced-all y xs (later (Some z) xs (length xs) h)) ∙
-      sym (cond-false (p z) (Some y ∷ xs) (Some z ∷ replaced p y xs) (h 0 (omega arith)))
+  replaced_none [] f = refl
+  replaced_none (None ∷ xs) f = ap (λ zs. None ∷ zs) (replaced_none xs (λ k m. f (suc k) (omega arith)))
+  replaced_none (Some x ∷ xs) f =
+      ap (λ zs. Some x ∷ zs) (replaced_none xs (λ k m. f (suc k) (omega arith))) ∙ sym (cond-false (p x) (Some y ∷ xs) (Some x ∷ replaced p y xs) (f 0 (omega arith)))
 
--- a map in place, one place further, where d is read past the end; and at its end
-pub mapped_more : {X : Type 0} (f : X → X) (d : X) (xs ys : List X) (i : ℕ) → i < length xs → ys ≡ map f (take i xs) ++ drop i xs →
-    set ys i (f (get_or ys i d)) ≡ map f (take (i + 1) xs) ++ drop (i + 1) xs
-mapped_more f d xs ys i h e =
-    let l : length ys ≡ length (map f (take i xs) ++ drop i xs) = ap length e in
-    map_over_more f xs ys i (get_or ys i d) h e (get_or_default ys i d (get_or ys i d) (omega (arith, simp (length-append, length-map, length-take, length-drop) at l)))
+  pub replaced_at : (xs : List (Option A)) (i : ℕ) → position (holds p) xs ≡ Some i → set xs i (Some y) ≡ replaced p y xs
+  replaced_at xs i e = let f = position-Some (holds p) xs i None e in replaced_from xs i f.0 f.1 f.2
 
-pub mapped_all : {X : Type 0} (f : X → X) (xs ys : List X) (i : ℕ) → length xs ≤ i → ys ≡ map f (take i xs) ++ drop i xs → ys ≡ map f xs
-mapped_all f xs ys i h e = e ∙ (ap (λ zs. map f zs ++ drop i xs) (take_all i xs h) ∙ (ap (λ zs. map f xs ++ zs) (drop_all i xs h) ∙ append-nil (map f xs)))
+  pub replaced_nowhere : (xs : List (Option A)) → position (holds p) xs ≡ None → xs ≡ replaced p y xs
+  replaced_nowhere xs e = replaced_none xs (λ k l. fails_before_first (holds p) xs k None (go (ltb (position_or_len (holds p) xs) (length xs)) refl e k l))
+    where
+      go : (b : Bool) → ltb (position_or_len (holds p) xs) (length xs) ≡ b → ◌≡◌ {A = Option ℕ} (cond b (Some (position_or_len (holds p) xs)) None) None → (k : ℕ) → k < length xs → k < position_or_len (holds p) xs
+      go true m n k l = absurd (not_true (sym (ap is_some n)))
+      go false m n k l = let h = ltb-false (position_or_len (holds p) xs) (length xs) m in omega arith

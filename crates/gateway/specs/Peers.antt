@@ -30,7 +30,7 @@ for_sending now life most p = first_that (may_send now life most) p.talks
 
 -- two talks with one own tag
 abbrev pub same_tag : Talk → Talk → Bool
-same_tag t u = u.mine == t.mine
+same_tag t u = u.tags.mine == t.tags.mine
 
 -- A talk put in the place of the one with its own tag.
 abbrev pub stored : Talk → Peer → Peer

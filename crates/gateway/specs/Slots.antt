@@ -1,5 +1,5 @@
 -- Places in memory that may be empty. Assumes nothing.
-use Rattle.std.specs.Prelude.{Bool, cond, List, [], ◌∷◌, map, Some, None, Option}
+use Rattle.std.specs.Prelude.{Bool, false, cond, List, [], ◌∷◌, map, Some, None, Option}
 
 -- the first that passes a test
 unfoldable pub first_that : {A : Type 0} → (A → Bool) → List (Option A) → Option A
@@ -21,3 +21,8 @@ emptied p (Some x) = cond (p x) None (Some x)
 -- each place emptied whose holder passes a test
 abbrev pub cleared : {A : Type 0} → (A → Bool) → List (Option A) → List (Option A)
 cleared p xs = map (emptied p) xs
+
+-- whether what a place holds passes a test; an empty one doesn't
+abbrev pub holds : {A : Type 0} → (A → Bool) → Option A → Bool
+holds p None = false
+holds p (Some x) = p x

@@ -8,17 +8,19 @@ use Rattle.window.specs.Heard.{look_bits}
 use Rattle.gateway.specs.declared.state.Talk.{Talk}
 use Rattle.gateway.specs.declared.state.Peer.{Peer}
 use Rattle.gateway.specs.declared.state.Gateway.{Gateway}
+use Rattle.gateway.specs.declared.state.InTalk.{InTalk}
+use Rattle.gateway.specs.declared.state.Owners.{Owners}
 use Rattle.gateway.specs.declared.state.Word.{Word}
 use Rattle.gateway.specs.declared.state.Word.TheVariants.{Hello, Reply, Packet, Empty}
 use Rattle.gateway.specs.declared.state.Taken.{Taken}
 use Rattle.gateway.specs.declared.state.Taken.TheVariants.{Answer, Sure, Out, Alive}
-use Rattle.gateway.specs.Talks.{fresh_talk, lives, heard_one, sent_one}
+use Rattle.gateway.specs.Talks.{tags, fresh_talk, lives, heard_one, sent_one}
 use Rattle.gateway.specs.Peers.{unknown, forgotten, talk_named, for_sending, stored, met, is_asked, answered, asked, is_greeted}
 
 -- A gate that was just made, at its first tick.
 abbrev pub fresh : (own gates life most : ℕ) → Gateway
 fresh own gates life most =
-    record { own = own; gates = gates; life = life; most = most; now = 1; fell = 0; peers = replicate 32 unknown }
+    record { own = own; gates = gates; terms = record { life = life; most = most }; now = 1; fell = 0; peers = replicate 32 unknown }
 
 -- what is read past the last peer
 abbrev pub blank : Peer
@@ -30,7 +32,7 @@ peer_at e s = slice_index_or s.peers e blank
 
 abbrev pub with_peers : List Peer → Gateway → Gateway
 with_peers ps s =
-    record { own = s.own; gates = s.gates; life = s.life; most = s.most; now = s.now; fell = s.fell; peers = ps }
+    record { own = s.own; gates = s.gates; terms = s.terms; now = s.now; fell = s.fell; peers = ps }
 
 -- The memory with another memory of gate e.
 abbrev pub storing : ℕ → Peer → Gateway → Gateway
@@ -95,7 +97,7 @@ abbrev pub found_talk : (by to by_tag to_tag number : ℕ) → Gateway → Resul
 found_talk by to m h n s =
     cond
     (is_peer by s && to == s.own)
-    (cond (m == 0 || h == 0) (Err ZeroTag) (found_in s.now s.life n (talk_named h m (peer_at by s))))
+    (cond (m == 0 || h == 0) (Err ZeroTag) (found_in s.now s.terms.life n (talk_named h m (peer_at by s))))
     (Err WrongGate)
 
 -- the talk, if the addresses are the two gates'
@@ -103,9 +105,14 @@ abbrev pub if_owned : Bool → Result Talk Refusal → Result Talk Refusal
 if_owned b (Ok t) = cond b (Ok t) (Err ForeignAddress)
 if_owned b (Err f) = Err f
 
+-- Gate e is the owner, if there is one.
+abbrev pub owns : (e : ℕ) → Option ℕ → Bool
+owns e None = false
+owns e (Some g) = g == e
+
 -- The talk in which a packet comes, or its first fault: as of any word of a talk; and then its maker must own its source, and this gate its destination.
-abbrev pub packet_talk : (by to by_tag to_tag number source goal : ℕ) → Gateway → Result Talk Refusal
-packet_talk by to m h n source goal s = if_owned (source == by && goal == s.own) (found_talk by to m h n s)
+abbrev pub packet_talk : (by to by_tag to_tag number : ℕ) → (source goal : Option ℕ) → Gateway → Result Talk Refusal
+packet_talk by to m h n source goal s = if_owned (owns by source && owns s.own goal) (found_talk by to m h n s)
 
 -- the answer to a word whose talk was found; or the refusal
 abbrev pub taken : Taken → Result Talk Refusal → Result Taken Refusal
@@ -117,12 +124,19 @@ abbrev pub heard_after : (by number : ℕ) → Gateway → Result Talk Refusal �
 heard_after by n s (Ok t) = storing by (stored (heard_one n t) (peer_at by s)) s
 heard_after by n s (Err f) = s
 
+-- Where a word of a talk stands; and the owners of a packet's addresses.
+abbrev pub in_talk : (by to by_tag to_tag number : ℕ) → InTalk
+in_talk by to m h n = record { by = by; to = to; tags = tags m h; number = n }
+
+abbrev pub between : (source goal : Option ℕ) → Owners
+between source goal = record { source = source; goal = goal }
+
 -- WHAT A WORD THAT IS BROUGHT IS ANSWERED.
 abbrev pub took : Word → (drawn : ℕ) → Gateway → Result Taken Refusal
 took (Hello by to tag at') drawn s = answer (hello_fault by to tag at' drawn s) (Answer (Reply s.own by drawn tag))
 took (Reply by to tag answers) drawn s = answer (reply_fault by to tag answers s) Sure
-took (Packet by to m h n source goal) drawn s = taken Out (packet_talk by to m h n source goal s)
-took (Empty by to m h n) drawn s = taken Alive (found_talk by to m h n s)
+took (Packet p o) drawn s = taken Out (packet_talk p.by p.to p.tags.mine p.tags.theirs p.number o.source o.goal s)
+took (Empty p) drawn s = taken Alive (found_talk p.by p.to p.tags.mine p.tags.theirs p.number s)
 
 -- WHAT IT LEAVES IN MEMORY.
 abbrev pub took_after : Word → (drawn : ℕ) → Gateway → Gateway
@@ -130,17 +144,22 @@ took_after (Hello by to tag at') drawn s =
     leaves (hello_fault by to tag at' drawn s) s (storing by (hello_peer tag at' drawn s.now (peer_at by s)) s)
 took_after (Reply by to tag answers) drawn s =
     leaves (reply_fault by to tag answers s) s (storing by (reply_peer tag answers s.now (peer_at by s)) s)
-took_after (Packet by to m h n source goal) drawn s = heard_after by n s (packet_talk by to m h n source goal s)
-took_after (Empty by to m h n) drawn s = heard_after by n s (found_talk by to m h n s)
+took_after (Packet p o) drawn s = heard_after p.by p.number s (packet_talk p.by p.to p.tags.mine p.tags.theirs p.number o.source o.goal s)
+took_after (Empty p) drawn s = heard_after p.by p.number s (found_talk p.by p.to p.tags.mine p.tags.theirs p.number s)
+
+-- The owner of a destination, if there is one, is another gate that is there.
+abbrev pub is_goal : Option ℕ → Gateway → Bool
+is_goal None s = false
+is_goal (Some e) s = is_peer e s
 
 -- The first fault of a packet that is put in, by the owners of its source and its destination.
-abbrev pub put_fault : (source goal : ℕ) → Gateway → Option Refusal
-put_fault source goal s = cond (source == s.own) (cond (is_peer goal s) None (Some NoRoute)) (Some ForeignAddress)
+abbrev pub put_fault : (source goal : Option ℕ) → Gateway → Option Refusal
+put_fault source goal s = cond (owns s.own source) (cond (is_goal goal s) None (Some NoRoute)) (Some ForeignAddress)
 
--- the packet of a talk under its next number
-abbrev pub packet_in : (own source goal : ℕ) → Option Talk → Option Word
-packet_in own source goal None = None
-packet_in own source goal (Some t) = Some (Packet own goal t.mine t.theirs (sent_one t).sent source goal)
+-- the packet of a talk with gate e under its next number
+abbrev pub packet_in : (own : ℕ) → (source : Option ℕ) → (e : ℕ) → Option Talk → Option Word
+packet_in own source e None = None
+packet_in own source e (Some t) = Some (Packet (in_talk own e t.tags.mine t.tags.theirs (sent_one t).sent) (between source (Some e)))
 
 -- the memory after the next number of a talk with gate e was used
 abbrev pub sent_after : (e : ℕ) → Gateway → Option Talk → Gateway
@@ -149,14 +168,23 @@ sent_after e s (Some t) = storing e (stored (sent_one t) (peer_at e s)) s
 
 -- What is sent by, to gate e.
 abbrev pub sending : (e : ℕ) → Gateway → Option Talk
-sending e s = for_sending s.now s.life s.most (peer_at e s)
+sending e s = for_sending s.now s.terms.life s.terms.most (peer_at e s)
+
+-- what goes out to the owner of a destination, and the memory after it; nothing where nobody owns it
+abbrev pub packet_for : (source goal : Option ℕ) → Gateway → Option Word
+packet_for source None s = None
+packet_for source (Some e) s = packet_in s.own source e (sending e s)
+
+abbrev pub sent_for : (goal : Option ℕ) → Gateway → Gateway
+sent_for None s = s
+sent_for (Some e) s = sent_after e s (sending e s)
 
 -- A PACKET THAT IS PUT IN goes out by the latest talk, if there is one.
-abbrev pub put : (source goal : ℕ) → Gateway → Result (Option Word) Refusal
-put source goal s = answer (put_fault source goal s) (packet_in s.own source goal (sending goal s))
+abbrev pub put : (source goal : Option ℕ) → Gateway → Result (Option Word) Refusal
+put source goal s = answer (put_fault source goal s) (packet_for source goal s)
 
-abbrev pub put_after : (source goal : ℕ) → Gateway → Gateway
-put_after source goal s = leaves (put_fault source goal s) s (sent_after goal s (sending goal s))
+abbrev pub put_after : (source goal : Option ℕ) → Gateway → Gateway
+put_after source goal s = leaves (put_fault source goal s) s (sent_for goal s)
 
 -- A hello to gate e can be made: it is another gate, there is a tag, the tick is above that of the last restart, and none of this tick waits for its reply.
 abbrev pub may_greet : (e tag : ℕ) → Gateway → Bool
@@ -172,9 +200,9 @@ greet_after e tag s = cond (may_greet e tag s) (storing e (asked tag s.now (peer
 -- A TICK PASSES; the clock stays at the largest number.
 abbrev pub ticked : Gateway → Gateway
 ticked s =
-    record { own = s.own; gates = s.gates; life = s.life; most = s.most; now = min (s.now + 1) (2 ^ 64 - 1); fell = s.fell; peers = s.peers }
+    record { own = s.own; gates = s.gates; terms = s.terms; now = min (s.now + 1) (2 ^ 64 - 1); fell = s.fell; peers = s.peers }
 
 -- THE GATE IS SWITCHED OFF AND ON: it keeps its clock, the tick of this, and the ticks of the last hellos that it took.
 abbrev pub restarted : Gateway → Gateway
 restarted s =
-    record { own = s.own; gates = s.gates; life = s.life; most = s.most; now = s.now; fell = s.now; peers = map forgotten s.peers }
+    record { own = s.own; gates = s.gates; terms = s.terms; now = s.now; fell = s.now; peers = map forgotten s.peers }

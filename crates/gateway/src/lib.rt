@@ -7,4 +7,4 @@ mod state;
 mod steps;
 mod talks;
 
-pub use state::{Gateway, Peer, Taken, Talk, Wait, Word};
+pub use state::{Gateway, InTalk, Owners, Peer, Tags, Taken, Talk, Terms, Wait, Word};

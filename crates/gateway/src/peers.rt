@@ -1,12 +1,13 @@
 // What a gate remembers of one other gate: looking a talk or a waiting hello up, and the memory after a change. Assumes nothing.
-ghost use Rattle.std.specs.Prelude.{◌≡◌};
-ghost use Rattle.gateway.specs.Peers.{unknown, forgotten, talk_named, for_sending, stored, met, is_asked, answered, asked, is_greeted, can_answer, has_tag};
-ghost use Rattle.gateway.specs.Slots.{emptied};
+ghost use Rattle.std.specs.Prelude.{◌≡◌, ◌==◌, position};
+ghost use Rattle.gateway.specs.Peers.{unknown, forgotten, talk_named, for_sending, stored, met, is_asked, answered, asked, is_greeted, can_answer};
+ghost use Rattle.gateway.specs.Slots.{holds};
 
-use crate::state::{Peer, Talk, Wait};
+use crate::state::{Peer, Tags, Talk, Terms, WAITS, Wait};
+use protocol::limits::MAX_TALKS;
 
 /// For so many ticks after its own a hello waits for its reply.
-const PATIENCE: u64 = 5;
+const PATIENCE: u64 = WAITS as u64 - 1;
 
 impl Wait {
     /// Whether a reply to this tag can still answer it.
@@ -17,24 +18,14 @@ impl Wait {
     }
 }
 
-/// A place emptied, if the hello in it has this tag.
-fn unless_tagged(slot: Option<Wait>, tag: u64) -> Option<Wait>
-    ensures { result ≡ emptied (has_tag tag) slot }
-{
-    let Some(wait) = slot else {
-        return None;
-    };
-    if wait.tag == tag { None } else { slot }
-}
-
 impl Peer {
     /// A gate of which nothing is known.
     pub(crate) fn new() -> Peer
         ensures { result ≡ unknown }
     {
         Peer {
-            talks: [None; 3],
-            waits: [None; 6],
+            talks: [None; MAX_TALKS],
+            waits: [None; WAITS],
             last_hello: 0,
         }
     }
@@ -50,48 +41,44 @@ impl Peer {
     }
 
     /// The talk that these two tags name.
-    pub(crate) fn talk_named(self, mine: u64, theirs: u64) -> Option<Talk>
-        ensures { result ≡ talk_named mine theirs self }
+    pub(crate) fn talk_named(self, tags: Tags) -> Option<Talk>
+        ensures { result ≡ talk_named tags.mine tags.theirs self }
     {
-        for slot in self.talks {
-            if let Some(talk) = slot {
-                if talk.is_named(mine, theirs) {
-                    return Some(talk);
-                }
-            }
-        }
-        None
+        self.talks
+            .into_iter()
+            .flatten()
+            .find(|talk| talk.tags == tags)
     }
 
     /// The latest talk that can be used to send.
-    pub(crate) fn for_sending(self, now: u64, life: u16, most: u32) -> Option<Talk>
-        ensures { result ≡ for_sending now life most self }
+    pub(crate) fn for_sending(self, now: u64, terms: Terms) -> Option<Talk>
+        ensures { result ≡ for_sending now terms.life terms.most self }
     {
-        for slot in self.talks {
-            if let Some(talk) = slot {
-                if talk.may_send(now, life, most) {
-                    return Some(talk);
-                }
-            }
-        }
-        None
+        self.talks
+            .into_iter()
+            .flatten()
+            .find(|talk| talk.may_send(now, terms))
+    }
+
+    /// The place of the talk with this own tag.
+    fn place_of(self, mine: u64) -> Option<usize>
+        ensures { result ≡ position (holds (λ t. t.tags.mine == mine)) self.talks }
+    {
+        self.talks
+            .iter()
+            .position(|slot| slot.is_some_and(|talk| talk.tags.mine == mine))
     }
 
     /// The memory with a talk put in the place of the one with its own tag.
+    #[tactic(auto, using(crate::proofs::Slots::replaced_at, crate::proofs::Slots::replaced_nowhere))]
     pub(crate) fn stored(self, talk: Talk) -> Peer
         ensures { result ≡ stored talk self }
     {
-        for place in 0..3usize {
-            let slot = self.talks[place];
-            if let Some(old) = slot {
-                if old.mine == talk.mine {
-                    let mut talks = self.talks;
-                    talks[place] = Some(talk);
-                    return Peer { talks, ..self };
-                }
-            }
+        let mut talks = self.talks;
+        if let Some(place) = self.place_of(talk.tags.mine) {
+            talks[place] = Some(talk);
         }
-        self
+        Peer { talks, ..self }
     }
 
     /// The memory with a further talk, which takes the place of the oldest of three.
@@ -109,39 +96,27 @@ impl Peer {
     pub(crate) fn is_asked(self, now: u64, tag: u64) -> bool
         ensures { result ≡ is_asked now tag self }
     {
-        for slot in self.waits {
-            if let Some(wait) = slot {
-                if wait.can_answer(now, tag) {
-                    return true;
-                }
-            }
-        }
-        false
+        self.waits
+            .into_iter()
+            .flatten()
+            .any(|wait| wait.can_answer(now, tag))
     }
 
     /// Whether a hello of this tick waits for its reply.
     pub(crate) fn is_greeted(self, now: u64) -> bool
         ensures { result ≡ is_greeted now self }
     {
-        for slot in self.waits {
-            if let Some(wait) = slot {
-                if wait.at == now {
-                    return true;
-                }
-            }
-        }
-        false
+        self.waits.into_iter().flatten().any(|wait| wait.at == now)
     }
 
     /// The memory in which no hello with this tag waits any longer.
     pub(crate) fn answered(self, tag: u64) -> Peer
         ensures { result ≡ answered tag self }
     {
-        let mut waits = self.waits;
-        for place in 0..6usize {
-            waits[place] = unless_tagged(waits[place], tag);
+        Peer {
+            waits: self.waits.map(|slot| slot.filter(|wait| wait.tag != tag)),
+            ..self
         }
-        Peer { waits, ..self }
     }
 
     /// The memory in which a hello waits that was said in this tick.
@@ -149,7 +124,7 @@ impl Peer {
         ensures { result ≡ asked tag at self }
     {
         let mut waits = self.waits;
-        waits[(at % 6) as usize] = Some(Wait { tag, at });
+        waits[(at % WAITS as u64) as usize] = Some(Wait { tag, at });
         Peer { waits, ..self }
     }
 }

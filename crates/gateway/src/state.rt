@@ -1,16 +1,35 @@
 // A gate's memory, and the words that go in and out of it. Assumes nothing.
+use protocol::limits::{MAX_GATES, MAX_TALKS};
 use window::state::Window;
+
+/// How many hellos to one gate can wait: those of the ticks for which a hello waits, and of its own.
+pub const WAITS: usize = 6;
+
+/// The two tags that name a talk, as one of its gates has them.
+#[derive(Clone, Copy, PartialEq, Eq, Debug)]
+pub struct Tags {
+    /// The tag that this gate drew for it.
+    pub mine: u64,
+    /// The tag that the other gate drew for it.
+    pub theirs: u64,
+}
+
+/// For how long a talk is good.
+#[derive(Clone, Copy, PartialEq, Eq, Debug)]
+pub struct Terms {
+    /// For how many ticks.
+    pub life: u16,
+    /// For how many numbers.
+    pub most: u32,
+}
 
 /// A talk (a session) with another gate: a pair of tags, counters and a replay window.
 #[derive(Clone, Copy)]
 pub struct Talk {
-    /// The tag that this gate drew for it.
-    pub(crate) mine: u64,
-    /// The tag that the other gate drew for it.
-    pub(crate) theirs: u64,
+    pub(crate) tags: Tags,
     /// The tick at which it was made here.
     pub(crate) born: u64,
-    /// The last number used for sending; 0 before the first.
+    /// How many numbers were used for sending; they begin with 1, so it is also the last one.
     pub(crate) sent: u32,
     /// Whether the other gate is known to have it.
     pub(crate) sure: bool,
@@ -30,10 +49,10 @@ pub struct Wait {
 #[derive(Clone, Copy)]
 pub struct Peer {
     /// The talks with it, the latest first.
-    pub(crate) talks: [Option<Talk>; 3],
+    pub(crate) talks: [Option<Talk>; MAX_TALKS],
     /// The hellos to it that wait, each in the place of its tick.
-    pub(crate) waits: [Option<Wait>; 6],
-    /// The tick of the last hello taken from it; 0 before the first.
+    pub(crate) waits: [Option<Wait>; WAITS],
+    /// The tick that a hello from it has to be above: that of the last one taken. No option: a hello of tick 0 is refused before the first one too.
     pub(crate) last_hello: u64,
 }
 
@@ -44,20 +63,39 @@ pub struct Gateway {
     pub(crate) own: u8,
     /// How many gates there are.
     pub(crate) gates: u8,
-    /// For how many ticks a talk is good.
-    pub(crate) life: u16,
-    /// For how many numbers a talk is good.
-    pub(crate) most: u32,
+    pub(crate) terms: Terms,
     /// The clock.
     pub(crate) now: u64,
-    /// The tick of the last restart; 0 before the first.
+    /// The tick that the clock has to be above for a hello: that of the last restart. No option: clocks begin with 1, so 0 lets all of them pass.
     pub(crate) fell: u64,
     /// What is remembered of each gate, by its number.
-    pub(crate) peers: [Peer; 32],
+    pub(crate) peers: [Peer; MAX_GATES],
+}
+
+/// Where a word of a talk stands.
+#[derive(Clone, Copy, PartialEq, Eq, Debug)]
+pub struct InTalk {
+    /// The gate that made it.
+    pub by: u8,
+    /// The gate that it is for.
+    pub to: u8,
+    /// The talk's tags, as the maker has them.
+    pub tags: Tags,
+    /// Its number there.
+    pub number: u64,
+}
+
+/// The gates that own the two addresses of a packet, none where nobody does.
+#[derive(Clone, Copy, PartialEq, Eq, Debug)]
+pub struct Owners {
+    /// Who owns its source.
+    pub source: Option<u8>,
+    /// Who owns its destination.
+    pub goal: Option<u8>,
 }
 
 /// A word (a datagram on the outer network) that was unsealed, or is to be sealed.
-#[derive(Clone, Copy)]
+#[derive(Clone, Copy, PartialEq, Eq, Debug)]
 pub enum Word {
     /// A wish for a talk: a tag drawn for it, and the maker's tick.
     Hello {
@@ -73,28 +111,19 @@ pub enum Word {
         tag: u64,
         answers: u64,
     },
-    /// A packet in a talk: both tags and its number there; and the gates that own its source and its destination.
+    /// A packet in a talk, and who owns its addresses.
     Packet {
-        by: u8,
-        to: u8,
-        by_tag: u64,
-        to_tag: u64,
-        number: u64,
-        source: u8,
-        goal: u8,
+        place: InTalk,
+        owners: Owners,
     },
-    /// A keepalive in a talk: both tags and its number there.
+    /// A keepalive in a talk.
     Empty {
-        by: u8,
-        to: u8,
-        by_tag: u64,
-        to_tag: u64,
-        number: u64,
+        place: InTalk,
     },
 }
 
 /// What became of a word that was taken.
-#[derive(Clone, Copy)]
+#[derive(Clone, Copy, PartialEq, Eq, Debug)]
 pub enum Taken {
     /// A hello: this reply is to be sent.
     Answer(Word),

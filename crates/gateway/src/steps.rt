@@ -1,39 +1,36 @@
 // A gate's calls: each answers, and leaves the memory, just as its contract says; refusals come in the order of their numbers. Assumes nothing.
 ghost use Rattle.std.specs.Prelude.{◌≡◌, ◌<◌, map};
-ghost use Rattle.gateway.specs.Steps.{fresh, is_peer, maker, storing, answer, leaves, peer_at, hello_fault, hello_peer, reply_fault, reply_peer, packet_talk, taken, heard_after, took, took_after, put, put_after, greet, greet_after, ticked, restarted, found_talk};
+ghost use Rattle.std.specs.Option.{unwrap_or};
+ghost use Rattle.gateway.specs.Steps.{fresh, is_peer, is_goal, maker, storing, answer, leaves, peer_at, hello_fault, hello_peer, reply_fault, reply_peer, packet_talk, taken, heard_after, took, took_after, put, put_after, greet, greet_after, ticked, restarted, found_talk};
 ghost use Rattle.gateway.specs.Peers.{stored, forgotten};
 ghost use Rattle.gateway.specs.Talks.{heard_one};
 ghost use Rattle.gateway.specs.declared.state.Taken.TheVariants.{Answer, Sure, Out, Alive};
 ghost use Rattle.gateway.specs.declared.state.Word.TheVariants.{Reply};
 
-use crate::state::{Gateway, Peer, Taken, Talk, Word};
+use crate::state::{Gateway, InTalk, Owners, Peer, Tags, Taken, Talk, Terms, Word};
 use protocol::Refusal;
+use protocol::limits::MAX_GATES;
 use window::state::Verdict;
 
 /// What is left of each peer after a restart.
-fn forgotten(peers: [Peer; 32]) -> [Peer; 32]
+fn forgotten(peers: [Peer; MAX_GATES]) -> [Peer; MAX_GATES]
     ensures { result ≡ map forgotten peers }
 {
-    let mut left = peers;
-    for place in 0..32usize {
-        left[place] = left[place].forgotten();
-    }
-    left
+    peers.map(|peer| peer.forgotten())
 }
 
 impl Gateway {
-    /// A gate that was just made, at its first tick: its number, how many gates there are, and for how many ticks and numbers a talk is good.
-    pub fn new(own: u8, gates: u8, life: u16, most: u32) -> Gateway
-        ensures { result ≡ fresh own gates life most }
+    /// A gate that was just made, at its first tick: its number, how many gates there are, and for how long a talk is good.
+    pub fn new(own: u8, gates: u8, terms: Terms) -> Gateway
+        ensures { result ≡ fresh own gates terms.life terms.most }
     {
         Gateway {
             own,
             gates,
-            life,
-            most,
+            terms,
             now: 1,
             fell: 0,
-            peers: [Peer::new(); 32],
+            peers: [Peer::new(); MAX_GATES],
         }
     }
 
@@ -57,22 +54,22 @@ impl Gateway {
     /// Keeps another memory of a gate that is there.
     fn store(&mut self, gate: u8, peer: Peer)
         requires { gate < 32 }
-        ensures { self.exit.now ≡ storing gate peer self.entry.now }
+        ensures { self.new ≡ storing gate peer self.old }
     {
         self.peers[usize::from(gate)] = peer;
     }
 
-    /// A hello is brought, with a tag drawn for its reply, 0 where there is none.
+    /// A hello is brought, with a tag drawn for its reply; 0 is no tag.
     fn take_hello(
         &mut self,
         by: u8,
         to: u8,
         tag: u64,
         at: u64,
-        drawn: u64,
+        drawn: Option<u64>,
     ) -> Result<Taken, Refusal>
-        ensures answer { result ≡ answer (hello_fault by to tag at drawn self.entry.now) (Answer (Reply self.entry.now.own by drawn tag)) }
-        ensures after { self.exit.now ≡ leaves (hello_fault by to tag at drawn self.entry.now) self.entry.now (storing by (hello_peer tag at drawn self.entry.now.now (peer_at by self.entry.now)) self.entry.now) }
+        ensures answer { result ≡ answer (hello_fault by to tag at (unwrap_or drawn 0) self.old) (Answer (Reply self.old.own by (unwrap_or drawn 0) tag)) }
+        ensures after { self.new ≡ leaves (hello_fault by to tag at (unwrap_or drawn 0) self.old) self.old (storing by (hello_peer tag at (unwrap_or drawn 0) self.old.now (peer_at by self.old)) self.old) }
     {
         let peer = self.maker(by, to)?;
         if tag == 0 {
@@ -81,10 +78,11 @@ impl Gateway {
         if at <= peer.last_hello {
             return Err(Refusal::OldHello);
         }
-        if drawn == 0 {
-            return Err(Refusal::NoDrawnBytes);
-        }
-        let met = peer.met(Talk::new(drawn, tag, self.now, false));
+        let mine = match drawn {
+            None | Some(0) => return Err(Refusal::NoDrawnBytes),
+            Some(mine) => mine,
+        };
+        let met = peer.met(Talk::new(Tags { mine, theirs: tag }, self.now, false));
         self.store(
             by,
             Peer {
@@ -95,50 +93,47 @@ impl Gateway {
         Ok(Taken::Answer(Word::Reply {
             by: self.own,
             to: by,
-            tag: drawn,
+            tag: mine,
             answers: tag,
         }))
     }
 
     /// A reply is brought.
     fn take_reply(&mut self, by: u8, to: u8, tag: u64, answers: u64) -> Result<Taken, Refusal>
-        ensures answer { result ≡ answer (reply_fault by to tag answers self.entry.now) Sure }
-        ensures after { self.exit.now ≡ leaves (reply_fault by to tag answers self.entry.now) self.entry.now (storing by (reply_peer tag answers self.entry.now.now (peer_at by self.entry.now)) self.entry.now) }
+        ensures answer { result ≡ answer (reply_fault by to tag answers self.old) Sure }
+        ensures after { self.new ≡ leaves (reply_fault by to tag answers self.old) self.old (storing by (reply_peer tag answers self.old.now (peer_at by self.old)) self.old) }
     {
         let peer = self.maker(by, to)?;
-        if tag == 0 || answers == 0 {
+        let tags = Tags {
+            mine: answers,
+            theirs: tag,
+        };
+        if tags.has_zero() {
             return Err(Refusal::ZeroTag);
         }
         if !peer.is_asked(self.now, answers) {
             return Err(Refusal::UnaskedReply);
         }
-        let talk = Talk::new(answers, tag, self.now, true);
+        let talk = Talk::new(tags, self.now, true);
         self.store(by, peer.answered(answers).met(talk));
         Ok(Taken::Sure)
     }
 
     /// The talk in which a number comes, or why it does not.
-    fn found_talk(
-        &self,
-        by: u8,
-        to: u8,
-        by_tag: u64,
-        to_tag: u64,
-        number: u64,
-    ) -> Result<Talk, Refusal>
-        ensures { result ≡ found_talk by to by_tag to_tag number self.entry.now }
+    fn found_talk(&self, place: InTalk) -> Result<Talk, Refusal>
+        ensures { result ≡ found_talk place.by place.to place.tags.mine place.tags.theirs place.number self.entry.now }
     {
-        let peer = self.maker(by, to)?;
-        if by_tag == 0 || to_tag == 0 {
+        let peer = self.maker(place.by, place.to)?;
+        if place.tags.has_zero() {
             return Err(Refusal::ZeroTag);
         }
-        let Some(talk) = peer.talk_named(to_tag, by_tag) else {
+        let Some(talk) = peer.talk_named(place.tags.swapped()) else {
             return Err(Refusal::NoTalk);
         };
-        if !talk.lives(self.now, self.life) {
+        if !talk.lives(self.now, self.terms.life) {
             return Err(Refusal::NoTalk);
         }
-        match talk.window.look(number) {
+        match talk.window.look(place.number) {
             Verdict::Fresh => Ok(talk),
             Verdict::TooOld => Err(Refusal::BelowWindow),
             Verdict::Came => Err(Refusal::RepeatedNumber),
@@ -148,56 +143,40 @@ impl Gateway {
     /// Notes that a number came in a talk.
     fn hear(&mut self, by: u8, talk: Talk, number: u64)
         requires { by < 32 }
-        ensures { self.exit.now ≡ storing by (stored (heard_one number talk) (peer_at by self.entry.now)) self.entry.now }
+        ensures { self.new ≡ storing by (stored (heard_one number talk) (peer_at by self.old)) self.old }
     {
         let peer = self.peers[usize::from(by)];
         self.store(by, peer.stored(talk.heard(number)));
     }
 
-    /// A packet of a talk is brought, with the owners of its source and its destination.
-    fn take_packet(
-        &mut self,
-        by: u8,
-        to: u8,
-        by_tag: u64,
-        to_tag: u64,
-        number: u64,
-        source: u8,
-        goal: u8,
-    ) -> Result<Taken, Refusal>
-        ensures answer { result ≡ taken Out (packet_talk by to by_tag to_tag number source goal self.entry.now) }
-        ensures after { self.exit.now ≡ heard_after by number self.entry.now (packet_talk by to by_tag to_tag number source goal self.entry.now) }
+    /// A packet of a talk is brought, with the owners of its addresses.
+    fn take_packet(&mut self, place: InTalk, owners: Owners) -> Result<Taken, Refusal>
+        ensures answer { result ≡ taken Out (packet_talk place.by place.to place.tags.mine place.tags.theirs place.number owners.source owners.goal self.old) }
+        ensures after { self.new ≡ heard_after place.by place.number self.old (packet_talk place.by place.to place.tags.mine place.tags.theirs place.number owners.source owners.goal self.old) }
     {
-        let talk = self.found_talk(by, to, by_tag, to_tag, number)?;
-        if source != by || goal != self.own {
+        let talk = self.found_talk(place)?;
+        if owners.source != Some(place.by) || owners.goal != Some(self.own) {
             return Err(Refusal::ForeignAddress);
         }
-        self.hear(by, talk, number);
+        self.hear(place.by, talk, place.number);
         Ok(Taken::Out)
     }
 
     /// A keepalive of a talk is brought.
-    fn take_empty(
-        &mut self,
-        by: u8,
-        to: u8,
-        by_tag: u64,
-        to_tag: u64,
-        number: u64,
-    ) -> Result<Taken, Refusal>
-        ensures answer { result ≡ taken Alive (found_talk by to by_tag to_tag number self.entry.now) }
-        ensures after { self.exit.now ≡ heard_after by number self.entry.now (found_talk by to by_tag to_tag number self.entry.now) }
+    fn take_empty(&mut self, place: InTalk) -> Result<Taken, Refusal>
+        ensures answer { result ≡ taken Alive (found_talk place.by place.to place.tags.mine place.tags.theirs place.number self.old) }
+        ensures after { self.new ≡ heard_after place.by place.number self.old (found_talk place.by place.to place.tags.mine place.tags.theirs place.number self.old) }
     {
-        let talk = self.found_talk(by, to, by_tag, to_tag, number)?;
-        self.hear(by, talk, number);
+        let talk = self.found_talk(place)?;
+        self.hear(place.by, talk, place.number);
         Ok(Taken::Alive)
     }
 
-    /// A word is brought from outside; `drawn` is a tag drawn for the reply, should it be a hello, 0 where there is none. Answers what becomes of it, or the
-    /// first cause to refuse it, which changes nothing.
-    pub fn take(&mut self, word: Word, drawn: u64) -> Result<Taken, Refusal>
-        ensures answer { result ≡ took word drawn self.entry.now }
-        ensures after { self.exit.now ≡ took_after word drawn self.entry.now }
+    /// A word is brought from outside; `drawn` is a tag drawn for the reply, should it be a hello, where 0 is no tag. Answers what becomes of it, or the first
+    /// cause to refuse it, which changes nothing.
+    pub fn take(&mut self, word: Word, drawn: Option<u64>) -> Result<Taken, Refusal>
+        ensures answer { result ≡ took word (unwrap_or drawn 0) self.old }
+        ensures after { self.new ≡ took_after word (unwrap_or drawn 0) self.old }
     {
         match word {
             Word::Hello { by, to, tag, at } => self.take_hello(by, to, tag, at, drawn),
@@ -207,60 +186,43 @@ impl Gateway {
                 tag,
                 answers,
             } => self.take_reply(by, to, tag, answers),
-            Word::Packet {
-                by,
-                to,
-                by_tag,
-                to_tag,
-                number,
-                source,
-                goal,
-            } => self.take_packet(by, to, by_tag, to_tag, number, source, goal),
-            Word::Empty {
-                by,
-                to,
-                by_tag,
-                to_tag,
-                number,
-            } => self.take_empty(by, to, by_tag, to_tag, number),
+            Word::Packet { place, owners } => self.take_packet(place, owners),
+            Word::Empty { place } => self.take_empty(place),
         }
     }
 
-    /// A packet is put in, by the owners of its source and its destination. Answers the word that it goes out in, or none where there is no talk to send it
-    /// by; refuses a source that is not this gate's and a destination that is no other gate's, which changes nothing.
-    pub fn put(&mut self, source: u8, goal: u8) -> Result<Option<Word>, Refusal>
-        ensures answer { result ≡ put source goal self.entry.now }
-        ensures after { self.exit.now ≡ put_after source goal self.entry.now }
+    /// A packet is put in, by the owners of its addresses. Answers the word that it goes out in, or none where there is no talk to send it by; refuses a
+    /// source that is not this gate's and a destination that is no other gate's, which changes nothing.
+    pub fn put(&mut self, owners: Owners) -> Result<Option<Word>, Refusal>
+        ensures answer { result ≡ put owners.source owners.goal self.old }
+        ensures after { self.new ≡ put_after owners.source owners.goal self.old }
     {
-        if source != self.own {
+        if owners.source != Some(self.own) {
             return Err(Refusal::ForeignAddress);
         }
-        if !self.is_peer(goal) {
+        let Some(to) = owners.goal.filter(|goal| self.is_peer(*goal)) else {
             return Err(Refusal::NoRoute);
-        }
-        let peer = self.peers[usize::from(goal)];
-        let Some(talk) = peer.for_sending(self.now, self.life, self.most) else {
+        };
+        let peer = self.peers[usize::from(to)];
+        let Some(talk) = peer.for_sending(self.now, self.terms) else {
             return Ok(None);
         };
         let used = talk.sent_one();
-        self.store(goal, peer.stored(used));
-        let number = u64::from(used.sent);
-        Ok(Some(Word::Packet {
+        self.store(to, peer.stored(used));
+        let place = InTalk {
             by: self.own,
-            to: goal,
-            by_tag: talk.mine,
-            to_tag: talk.theirs,
-            number,
-            source,
-            goal,
-        }))
+            to,
+            tags: talk.tags,
+            number: u64::from(used.sent),
+        };
+        Ok(Some(Word::Packet { place, owners }))
     }
 
     /// Makes a hello to a gate under a drawn tag; none where that gate is not another one, the tag is 0, the tick is not above that of the last restart, or
     /// a hello to it of this tick waits for its reply, and then nothing is changed.
     pub fn greet(&mut self, gate: u8, tag: u64) -> Option<Word>
-        ensures answer { result ≡ greet gate tag self.entry.now }
-        ensures after { self.exit.now ≡ greet_after gate tag self.entry.now }
+        ensures answer { result ≡ greet gate tag self.old }
+        ensures after { self.new ≡ greet_after gate tag self.old }
     {
         if !self.is_peer(gate) || tag == 0 || self.now <= self.fell {
             return None;
@@ -280,7 +242,7 @@ impl Gateway {
 
     /// The gate is switched off and on: it keeps its clock, the tick of this, and the ticks of the last hellos that it took, and forgets all else.
     pub fn restart(&mut self)
-        ensures { self.exit.now ≡ restarted self.entry.now }
+        ensures { self.new ≡ restarted self.old }
     {
         self.fell = self.now;
         self.peers = forgotten(self.peers);
@@ -288,7 +250,7 @@ impl Gateway {
 
     /// A tick passes. The clock stays at the largest number.
     pub fn tick(&mut self)
-        ensures { self.exit.now ≡ ticked self.entry.now }
+        ensures { self.new ≡ ticked self.old }
     {
         self.now = self.now.saturating_add(1);
     }

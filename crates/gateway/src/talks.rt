@@ -1,18 +1,36 @@
 // A talk's steps. Assumes nothing.
-ghost use Rattle.std.specs.Prelude.{◌≡◌};
-ghost use Rattle.gateway.specs.Talks.{fresh_talk, lives, may_send, heard_one, sent_one, names};
+ghost use Rattle.std.specs.Prelude.{◌≡◌, ◌||◌, ◌==◌};
+ghost use Rattle.gateway.specs.Talks.{fresh_talk, swapped, lives, may_send, heard_one, sent_one};
 
-use crate::state::Talk;
+use crate::state::{Tags, Talk, Terms};
 use window::state::Window;
+
+impl Tags {
+    /// The tags as the other gate has them.
+    pub(crate) fn swapped(self) -> Tags
+        ensures { result ≡ swapped self }
+    {
+        Tags {
+            mine: self.theirs,
+            theirs: self.mine,
+        }
+    }
+
+    /// Whether one of them is 0, which no talk has.
+    pub(crate) fn has_zero(self) -> bool
+        ensures { result ≡ (self.mine == 0 || self.theirs == 0) }
+    {
+        self.mine == 0 || self.theirs == 0
+    }
+}
 
 impl Talk {
     /// A talk that was just made: nothing was sent in it and nothing has come.
-    pub(crate) fn new(mine: u64, theirs: u64, born: u64, sure: bool) -> Talk
-        ensures { result ≡ fresh_talk mine theirs born sure }
+    pub(crate) fn new(tags: Tags, born: u64, sure: bool) -> Talk
+        ensures { result ≡ fresh_talk tags.mine tags.theirs born sure }
     {
         Talk {
-            mine,
-            theirs,
+            tags,
             born,
             sent: 0,
             sure,
@@ -28,17 +46,10 @@ impl Talk {
     }
 
     /// Whether it can be used to send: this gate is sure of it, it is not over, and its numbers are not used up.
-    pub(crate) fn may_send(self, now: u64, life: u16, most: u32) -> bool
-        ensures { result ≡ may_send now life most self }
+    pub(crate) fn may_send(self, now: u64, terms: Terms) -> bool
+        ensures { result ≡ may_send now terms.life terms.most self }
     {
-        self.sure && self.lives(now, life) && self.sent < most
-    }
-
-    /// Whether these two tags name it.
-    pub(crate) fn is_named(self, mine: u64, theirs: u64) -> bool
-        ensures { result ≡ names mine theirs self }
-    {
-        self.mine == mine && self.theirs == theirs
+        self.sure && self.lives(now, terms.life) && self.sent < terms.most
     }
 
     /// The talk after a number came in it: whoever hears something of a talk is sure of it.

@@ -1,20 +1,6 @@
-use Rattle.std.proofs.Common.{is_some, sym, ap, arith}
-use Rattle.gateway.specs.Peers.{can_answer}
-use Rattle.gateway.proofs.Slots.{first-at, first-all}
+use Rattle.std.proofs.Common.{rules, tests}
+use Rattle.gateway.proofs.Slots.{any_first}
 use Rattle.gateway.proofs.state.Peer.is_asked.Goals as goal
 
-pub returns-then-can_answer : goal.returns-then-can_answer
-returns-then-can_answer c =
-    ap
-    is_some
-    (first-at
-    (can_answer c.args.now c.args.tag)
-    c.args.self.waits
-    c.loop-slot.slot-index
-    c.in-Some.wait
-    c.loop-slot.invariant
-    c.in-Some.is
-    (sym c.if-can_answer.ensures))
-
 pub returns : goal.returns
-returns c = ap is_some (first-all (can_answer c.args.now c.args.tag) c.args.self.waits (λ k l. c.loop-slot.invariant k (omega arith)))
+returns c = any_first _ _ _ _ _ _ _ c.any.ensures.ran (λ o j b. b.0) (cc) c.into_iter.ensures.into_iter_gives.0 (cc) (cc) (cc) (λ x b q k. search (rules, tests))

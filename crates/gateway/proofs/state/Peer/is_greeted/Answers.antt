@@ -1,20 +1,6 @@
-use Rattle.std.proofs.Common.{eqb, is_some, ap, arith}
-use Rattle.std.proofs.lemmas.Bool.{eq-eqb}
-use Rattle.gateway.proofs.Slots.{first-at, first-all}
+use Rattle.std.proofs.Common.{rules, tests}
+use Rattle.gateway.proofs.Slots.{any_first}
 use Rattle.gateway.proofs.state.Peer.is_greeted.Goals as goal
 
-pub returns-then-wait-now : goal.returns-then-wait-now
-returns-then-wait-now c =
-    ap
-    is_some
-    (first-at
-    (λ x. eqb x.at c.args.now)
-    c.args.self.waits
-    c.loop-slot.slot-index
-    c.in-Some.wait
-    c.loop-slot.invariant
-    c.in-Some.is
-    (eq-eqb c.in-Some.wait.at c.args.now c.if-wait-now.true))
-
 pub returns : goal.returns
-returns c = ap is_some (first-all (λ x. eqb x.at c.args.now) c.args.self.waits (λ k l. c.loop-slot.invariant k (omega arith)))
+returns c = any_first _ _ _ _ _ _ _ c.any.ensures.ran (λ o j b. b.0) (cc) c.into_iter.ensures.into_iter_gives.0 (cc) (cc) (cc) (λ x b q k. search (rules, tests))
