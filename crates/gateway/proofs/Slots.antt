@@ -1,17 +1,17 @@
--- What chains over places find, and what a change in the first place that passes a test leaves. Assumes nothing.
-use Rattle.std.proofs.Common.{◌≡◌, ℕ, Bool, true, false, cond, List, [], ◌∷◌, Some, None, Option, is_some, sym, refl, ap, ◌∙◌, subst, Bor, arith, zero, suc, ◌+◌, ◌<◌, map, length, get_or, set, ltb}
-use Rattle.std.proofs.lemmas.Iterator.{YieldsList}
-use Rattle.std.proofs.lemmas.Iterator.Search.{find_from_yields_List, any_from_yields_List}
-use Rattle.std.proofs.lemmas.Iterator.Adapters.{YieldsList-from_flatten, YieldsList-from_once, option_map_id}
-use Rattle.std.proofs.lemmas.Iterator.Consumers.{YieldsList-from_shown, YieldsList-at}
+-- What chains over places find, a map of an array, and what a change in the first place that passes a test leaves. Assumes nothing.
+use Rattle.std.proofs.Common.{◌≡◌, ℕ, zero, suc, ◌+◌, ◌<◌, Bool, true, false, cond, ltb, List, [], ◌∷◌, map, length, get_or, set, Some, None, Option, is_some, Bor, sym, refl, ap, ◌∙◌, subst, arith}
 use denote.Param.Members.{Mut}
-use Rattle.std.specs.Bool.{⊤}
 use Rattle.std.proofs.lemmas.Bool.{cond-true, cond-false, ltb-false}
-use Rattle.std.proofs.lemmas.List.Sums.{fails_before_first}
-use Rattle.std.proofs.lemmas.List.Quantifiers.{position-Some}
+use Rattle.std.proofs.lemmas.Iterator.{YieldsList}
+use Rattle.std.proofs.lemmas.Iterator.Adapters.{YieldsList-from_flatten, YieldsList-from_once, option_map_id}
+use Rattle.std.proofs.lemmas.Iterator.Consumers.{YieldsList-from_shown}
+use Rattle.std.proofs.lemmas.Iterator.Search.{find_from_yields_List, any_from_yields_List}
 use Rattle.std.proofs.lemmas.List.{same_lists, get_or-map, length-map}
+use Rattle.std.proofs.lemmas.List.Quantifiers.{position-Some}
+use Rattle.std.proofs.lemmas.List.Sums.{fails_before_first}
 use Rattle.std.specs.Array.{MapsFrom, IsMapOf}
 use Rattle.std.specs.Array.Iter.{array_steps, array_into_iter_items}
+use Rattle.std.specs.Bool.{⊤}
 use Rattle.std.specs.Fn.{Called, CalledAt}
 use Rattle.std.specs.Iterator.{YieldsThen}
 use Rattle.std.specs.Iterator.Adapters.{once_item, once_steps, flatten_source, flatten_front, flatten_back, flatten_done, flatten_steps}
@@ -22,6 +22,7 @@ use Rattle.std.specs.declared.iter.Flatten.{Flatten}
 use Rattle.std.specs.declared.iter.Once.{Once}
 use Rattle.gateway.specs.Slots.{first_that, replaced, holds}
 
+-- the list of what places hold, and the first in it
 find_that : {A : Type 0} (p : A → Bool) (xs : List (Option A)) → find p (flat_map option_to_list xs) ≡ first_that p xs
 unfolding first_that
 find_that p [] = refl
@@ -34,31 +35,45 @@ any_that p [] = refl
 any_that p (None ∷ xs) = any_that p xs
 any_that p (Some x ∷ xs) = grind (arith, any_that p xs)
 
--- the holders of places, one by one
-road : {A : Type 0} {n : ℕ} {s : Flatten (IntoIter (Option A) n) (Once A)} (becomes : Option A → Once A → Type 0) → ((o : Option A) (j : Once A) → becomes o j → once_item j ≡ o) →
-    (it : IntoIter (Option A) n) → flatten_source s ≡ it → flatten_front s ≡ None → flatten_back s ≡ None → flatten_done s ≡ false →
-    YieldsList (flatten_steps array_steps becomes once_steps) (λ x. x) s (flat_map option_to_list (array_into_iter_items it))
-road becomes is it source front back done =
-    YieldsList-from_flatten becomes _ (λ x. x) option_to_list (λ o j b. YieldsList-from_once o (is o j b))
-    (YieldsList-at source (YieldsList-from_shown array_steps (λ x. x) array_into_iter_items (λ s t e. e.0) (λ s x t e. e) it)) front back done
+-- a chain over what the places of an array hold
+abbrev Chain : Type 0 → ℕ → Type 0
+Chain A n = Flatten (IntoIter (Option A) n) (Once A)
 
--- a search among them finds the first that passes
-pub find_first : {A F : Type 0} {n : ℕ} {s : Flatten (IntoIter (Option A) n) (Once A)} {g : Mut F (Bor A × Unit {0}) Bool} (test : A → Bool) (u : Flatten (IntoIter (Option A) n) (Once A)) (f : F) (r : Option A) (becomes : Option A → Once A → Type 0) (it : IntoIter (Option A) n) (xs : List (Option A)) →
-    (ys : List A) × (j : F) × YieldsThen (flatten_steps array_steps becomes once_steps) s ys r u × FoldsTo (λ p x q. CalledAt g p x false q) f ys j × MatchOption r ⊤ (λ x. (h : F) × CalledAt g j x true h) →
-    ((o : Option A) (j : Once A) → becomes o j → once_item j ≡ o) → flatten_source s ≡ it → array_into_iter_items it ≡ xs → flatten_front s ≡ None → flatten_back s ≡ None → flatten_done s ≡ false →
-    ((x : A) (b : Bool) (q : F) → CalledAt g f x b q → (q ≡ f) × (b ≡ test x)) → r ≡ first_that test xs
-find_first test u f r becomes it xs ran is source items front back done calls =
-    sym (option_map_id r) ∙ find_from_yields_List test u f r ran (road becomes is it source front back done) calls ∙ find_that test (array_into_iter_items it) ∙ ap (first_that test) items
+module _ {A : Type 0} {n : ℕ} (becomes : Option A → Once A → Type 0) where
+  abbrev steps : Chain A n → Option A → Chain A n → Type 0
+  steps = flatten_steps array_steps becomes once_steps
 
-pub any_first : {A F : Type 0} {n : ℕ} {s : Flatten (IntoIter (Option A) n) (Once A)} {g : Mut F (A × Unit {0}) Bool} (test : A → Bool) (u : Flatten (IntoIter (Option A) n) (Once A)) (f : F) (r : Bool) (becomes : Option A → Once A → Type 0) (it : IntoIter (Option A) n) (xs : List (Option A)) →
-    (ys : List A) × (o : Option A) × (j : F) × YieldsThen (flatten_steps array_steps becomes once_steps) s ys o u × FoldsTo (λ p x q. Called g p (x, tt) false q) f ys j × MatchOption o (r ≡ false) (λ x. (r ≡ true) × ((h : F) × Called g j (x, tt) true h)) →
-    ((o : Option A) (j : Once A) → becomes o j → once_item j ≡ o) → flatten_source s ≡ it → array_into_iter_items it ≡ xs → flatten_front s ≡ None → flatten_back s ≡ None → flatten_done s ≡ false →
-    ((x : A) (b : Bool) (q : F) → Called g f (x, tt) b q → (q ≡ f) × (b ≡ test x)) → r ≡ is_some (first_that test xs)
-any_first test u f r becomes it xs ran is source items front back done calls =
-    any_from_yields_List test u f r ran (road becomes is it source front back done) calls ∙ any_that test (array_into_iter_items it) ∙ ap (λ ys. is_some (first_that test ys)) items
+  -- nothing was taken from it yet
+  pub record Over (s : Chain A n) (xs : List (Option A)) : Type 0 where
+    pub holder : (o : Option A) (j : Once A) → becomes o j → once_item j ≡ o
+    pub source : array_into_iter_items (flatten_source s) ≡ xs
+    pub front : flatten_front s ≡ None
+    pub back : flatten_back s ≡ None
+    pub more : flatten_done s ≡ false
+
+  road : (s : Chain A n) (xs : List (Option A)) → Over s xs → YieldsList steps (λ x. x) s (flat_map option_to_list (array_into_iter_items (flatten_source s)))
+  road s xs o =
+      YieldsList-from_flatten becomes _ (λ x. x) option_to_list (λ h j b. YieldsList-from_once h (o.holder h j b))
+      (YieldsList-from_shown array_steps (λ x. x) array_into_iter_items (λ s t e. e.0) (λ s x t e. e) (flatten_source s)) o.front o.back o.more
+
+  -- `find` along it finds the first that passes
+  pub find_first : {F : Type 0} {s : Chain A n} {g : Mut F (Bor A × Unit {0}) Bool} (test : A → Bool) (u : Chain A n) (f : F) (r : Option A) (xs : List (Option A)) →
+      (ys : List A) × (j : F) × YieldsThen steps s ys r u × FoldsTo (λ p x q. CalledAt g p x false q) f ys j × MatchOption r ⊤ (λ x. (h : F) × CalledAt g j x true h) →
+      Over s xs → ((x : A) (b : Bool) (q : F) → CalledAt g f x b q → (q ≡ f) × (b ≡ test x)) → r ≡ first_that test xs
+  find_first test u f r xs ran o calls =
+      sym (option_map_id r) ∙ find_from_yields_List test u f r ran (road _ xs o) calls ∙ find_that test _ ∙ ap (first_that test) o.source
+
+  -- `any` says whether one passes
+  pub any_first : {F : Type 0} {s : Chain A n} {g : Mut F (A × Unit {0}) Bool} (test : A → Bool) (u : Chain A n) (f : F) (r : Bool) (xs : List (Option A)) →
+      (ys : List A) × (o : Option A) × (j : F) × YieldsThen steps s ys o u × FoldsTo (λ p x q. Called g p (x, tt) false q) f ys j ×
+      MatchOption o (r ≡ false) (λ x. (r ≡ true) × ((h : F) × Called g j (x, tt) true h)) →
+      Over s xs → ((x : A) (b : Bool) (q : F) → Called g f (x, tt) b q → (q ≡ f) × (b ≡ test x)) → r ≡ is_some (first_that test xs)
+  any_first test u f r xs ran o calls =
+      any_from_yields_List test u f r ran (road _ xs o) calls ∙ any_that test _ ∙ ap (λ ys. is_some (first_that test ys)) o.source
 
 -- A map of an array, at each place of it and as a list.
-module _ {A B F : Type 0} {g : Mut F (A × Unit {0}) B} (h : A → B) (f : F) (xs : List A) (ys : List B) (calls : (x : A) (y : B) (q : F) → Called g f (x, tt) y q → (q ≡ f) × (y ≡ h x)) where
+module _ {A B F : Type 0} {g : Mut F (A × Unit {0}) B} (h : A → B) (f : F) (xs : List A) (ys : List B)
+    (calls : (x : A) (y : B) (q : F) → Called g f (x, tt) y q → (q ≡ f) × (y ≡ h x)) where
   mapped_at : (n i k j : ℕ) → MapsFrom g f xs ys i n → k < n → j ≡ i + k → (x : A) × ((d : A) → get_or xs j d ≡ x) × ((e : B) → get_or ys j e ≡ h x)
   mapped_at zero i k j m l s = absurd (omega arith)
   mapped_at (suc n) i zero j (q, x, y, p, r, c, m) l s =
@@ -76,7 +91,8 @@ not_true e = let z : ◌≡◌ {A = ℕ} 0 1 = ap (λ b. cond b 1 0) e in omega 
 
 -- The place of the first that passes a test, and that one replaced.
 module _ {A : Type 0} (p : A → Bool) (y : A) where
-  replaced_from : (xs : List (Option A)) (i : ℕ) → i < length xs → holds p (get_or xs i None) ≡ true → ((k : ℕ) → k < i → holds p (get_or xs k None) ≡ false) → set xs i (Some y) ≡ replaced p y xs
+  replaced_from : (xs : List (Option A)) (i : ℕ) → i < length xs → holds p (get_or xs i None) ≡ true →
+      ((k : ℕ) → k < i → holds p (get_or xs k None) ≡ false) → set xs i (Some y) ≡ replaced p y xs
   unfolding replaced
   replaced_from [] i l t f = absurd (omega arith)
   replaced_from (None ∷ xs) zero l t f = absurd (not_true t)
@@ -98,6 +114,7 @@ module _ {A : Type 0} (p : A → Bool) (y : A) where
   pub replaced_nowhere : (xs : List (Option A)) → position (holds p) xs ≡ None → xs ≡ replaced p y xs
   replaced_nowhere xs e = replaced_none xs (λ k l. fails_before_first (holds p) xs k None (go (ltb (position_or_len (holds p) xs) (length xs)) refl e k l))
     where
-      go : (b : Bool) → ltb (position_or_len (holds p) xs) (length xs) ≡ b → ◌≡◌ {A = Option ℕ} (cond b (Some (position_or_len (holds p) xs)) None) None → (k : ℕ) → k < length xs → k < position_or_len (holds p) xs
+      go : (b : Bool) → ltb (position_or_len (holds p) xs) (length xs) ≡ b → ◌≡◌ {A = Option ℕ} (cond b (Some (position_or_len (holds p) xs)) None) None →
+          (k : ℕ) → k < length xs → k < position_or_len (holds p) xs
       go true m n k l = absurd (not_true (sym (ap is_some n)))
       go false m n k l = let h = ltb-false (position_or_len (holds p) xs) (length xs) m in omega arith

@@ -1,8 +1,8 @@
 // A gate's calls: each answers, and leaves the memory, just as its contract says; refusals come in the order of their numbers. Assumes nothing.
-ghost use Rattle.std.specs.Prelude.{◌≡◌, ◌<◌, map};
+ghost use Rattle.std.specs.Prelude.{◌≡◌, ◌<◌};
 ghost use Rattle.std.specs.Option.{unwrap_or};
 ghost use Rattle.gateway.specs.Steps.{fresh, is_peer, is_goal, maker, storing, answer, leaves, peer_at, hello_fault, hello_peer, reply_fault, reply_peer, packet_talk, taken, heard_after, took, took_after, put, put_after, greet, greet_after, ticked, restarted, found_talk};
-ghost use Rattle.gateway.specs.Peers.{stored, forgotten};
+ghost use Rattle.gateway.specs.Peers.{stored};
 ghost use Rattle.gateway.specs.Talks.{heard_one};
 ghost use Rattle.gateway.specs.declared.state.Taken.TheVariants.{Answer, Sure, Out, Alive};
 ghost use Rattle.gateway.specs.declared.state.Word.TheVariants.{Reply};
@@ -11,13 +11,6 @@ use crate::state::{Gateway, InTalk, Owners, Peer, Tags, Taken, Talk, Terms, Word
 use protocol::Refusal;
 use protocol::limits::MAX_GATES;
 use window::state::Verdict;
-
-/// What is left of each peer after a restart.
-fn forgotten(peers: [Peer; MAX_GATES]) -> [Peer; MAX_GATES]
-    ensures { result ≡ map forgotten peers }
-{
-    peers.map(|peer| peer.forgotten())
-}
 
 impl Gateway {
     /// A gate that was just made, at its first tick: its number, how many gates there are, and for how long a talk is good.
@@ -38,7 +31,7 @@ impl Gateway {
     fn is_peer(&self, gate: u8) -> bool
         ensures value { result ≡ is_peer gate self.entry.now }
     {
-        gate < self.gates && gate < 32 && gate != self.own
+        gate < self.gates && usize::from(gate) < MAX_GATES && gate != self.own
     }
 
     /// What is remembered of the maker of a word that is for this gate.
@@ -141,12 +134,12 @@ impl Gateway {
     }
 
     /// Notes that a number came in a talk.
-    fn hear(&mut self, by: u8, talk: Talk, number: u64)
-        requires { by < 32 }
-        ensures { self.new ≡ storing by (stored (heard_one number talk) (peer_at by self.old)) self.old }
+    fn hear(&mut self, place: InTalk, talk: Talk)
+        requires { place.by < 32 }
+        ensures { self.new ≡ storing place.by (stored (heard_one place.number talk) (peer_at place.by self.old)) self.old }
     {
-        let peer = self.peers[usize::from(by)];
-        self.store(by, peer.stored(talk.heard(number)));
+        let peer = self.peers[usize::from(place.by)];
+        self.store(place.by, peer.stored(talk.heard(place.number)));
     }
 
     /// A packet of a talk is brought, with the owners of its addresses.
@@ -158,7 +151,7 @@ impl Gateway {
         if owners.source != Some(place.by) || owners.goal != Some(self.own) {
             return Err(Refusal::ForeignAddress);
         }
-        self.hear(place.by, talk, place.number);
+        self.hear(place, talk);
         Ok(Taken::Out)
     }
 
@@ -168,7 +161,7 @@ impl Gateway {
         ensures after { self.new ≡ heard_after place.by place.number self.old (found_talk place.by place.to place.tags.mine place.tags.theirs place.number self.old) }
     {
         let talk = self.found_talk(place)?;
-        self.hear(place.by, talk, place.number);
+        self.hear(place, talk);
         Ok(Taken::Alive)
     }
 
@@ -245,7 +238,7 @@ impl Gateway {
         ensures { self.new ≡ restarted self.old }
     {
         self.fell = self.now;
-        self.peers = forgotten(self.peers);
+        self.peers = self.peers.map(|peer| peer.forgotten());
     }
 
     /// A tick passes. The clock stays at the largest number.
