@@ -2,11 +2,13 @@
 use Rattle.std.specs.Prelude.{◌≡◌, ℕ, true, false, List, [], ◌∷◌, ◌++◌, map, Some, None, Option}
 use Rattle.window.specs.declared.state.Window.{Window}
 use Rattle.window.specs.Edges.{only}
+use Rattle.protocol.specs.declared.refusals.Refusal.TheVariants.{BelowWindow, ForeignAddress, NoTalk, OldHello, RepeatedNumber}
+use Rattle.gateway.specs.declared.state.Tags.{Tags}
 use Rattle.gateway.specs.declared.state.Talk.{Talk}
 use Rattle.gateway.specs.declared.state.Gateway.{Gateway}
 use Rattle.gateway.specs.declared.state.Word.{Word}
 use Rattle.gateway.specs.declared.state.Word.TheVariants.{Hello, Reply, Packet}
-use Rattle.gateway.specs.Steps.{fresh, ticked, peer_at}
+use Rattle.gateway.specs.Steps.{fresh, ticked, peer_at, in_talk, between}
 use Rattle.cases.specs.declared.rows.Pair.{Pair}
 use Rattle.cases.specs.declared.rows.Side.{Side}
 use Rattle.cases.specs.declared.rows.Side.TheVariants.{Zero, One}
@@ -14,9 +16,8 @@ use Rattle.cases.specs.declared.rows.Event.{Event}
 use Rattle.cases.specs.declared.rows.Event.TheVariants.{Tick, Restart, Greet, Put, Take}
 use Rattle.cases.specs.declared.rows.Said.{Said}
 use Rattle.cases.specs.declared.rows.Said.TheVariants.{Nothing, Refused, Sends, Sure, Out}
-use Rattle.cases.specs.declared.rows.Tags.{Tags}
 use Rattle.cases.specs.declared.rows.Row.{Row}
-use Rattle.cases.specs.Play.{Known, after, happened, talks_at}
+use Rattle.cases.specs.Play.{Known, gate_of, after, happened, talks_at}
 
 -- three ticks pass
 abbrev pub three_ticks : Gateway → Gateway
@@ -27,7 +28,7 @@ abbrev pub at_seven : (own : ℕ) → Gateway
 at_seven own = three_ticks (three_ticks (fresh own 3 600 1000))
 
 abbrev pub start : Pair
-start = record { zero = at_seven 0; one = at_seven 1 }
+start = record { gates = at_seven 0 ∷ at_seven 1 ∷ [] }
 
 -- A line of the table: a row, and the talks in memory after it of the gate at which it happens, the latest first.
 pub record Line : Type 0 where
@@ -67,23 +68,27 @@ next_hello = Hello 0 1 6 8
 abbrev pub next_reply : Word
 next_reply = Reply 1 0 10 6
 
--- The packets of gate 0's: in the talk 5 and 9; in the talk 6 and 10; and the first one there, from an address of gate 2's.
-abbrev pub first_packet : (number : ℕ) → Word
-first_packet n = Packet 0 1 5 9 n 0 1
+-- The tags of the talk that the first hello makes, as gate 0 has them; and of that of the next one.
+abbrev pub first : Tags
+first = record { mine = 5; theirs = 9 }
 
-abbrev pub next_packet : (number : ℕ) → Word
-next_packet n = Packet 0 1 6 10 n 0 1
+abbrev pub next : Tags
+next = record { mine = 6; theirs = 10 }
+
+-- The packets of gate 0's in a talk; and the first one of the next talk, from an address of gate 2's.
+abbrev pub packet : Tags → (number : ℕ) → Word
+packet t n = Packet (in_talk 0 1 t.mine t.theirs n) (between (Some 0) (Some 1))
 
 abbrev pub foreign : Word
-foreign = Packet 0 1 6 10 1 2 1
+foreign = Packet (in_talk 0 1 6 10 1) (between (Some 2) (Some 1))
 
 -- a word is brought for which no tag has to be drawn
 abbrev pub brought : Word → Event
-brought w = Take w 0
+brought w = Take w None
 
 -- a packet is put in at gate 0, for gate 1
 abbrev pub given : Event
-given = Put 0 1
+given = Put (between (Some 0) (Some 1))
 
 -- the rows of lines, which code can see
 abbrev pub rows_of : List Line → List Row
@@ -94,61 +99,61 @@ rows_of ls = map (λ l. l.row) ls
 abbrev pub case_a : List Line
 case_a =
     line Zero (Greet 1 5) (Sends hello) None [] ∷
-    line One (Take hello 9) (Sends reply) None (unsure 9 5 0 ∷ []) ∷
+    line One (Take hello (Some 9)) (Sends reply) None (unsure 9 5 0 ∷ []) ∷
     line Zero (brought reply) Sure (sure_tags 5 9) (surely 5 9 0 ∷ []) ∷
     []
 
 -- B: the hello again, and the one that was held back.
 abbrev pub case_b : List Line
 case_b =
-    line One (Take hello 11) (Refused 5) None (unsure 9 5 0 ∷ []) ∷
-    line One (Take held_back 11) (Refused 5) None (unsure 9 5 0 ∷ []) ∷
+    line One (Take hello (Some 11)) (Refused OldHello) None (unsure 9 5 0 ∷ []) ∷
+    line One (Take held_back (Some 11)) (Refused OldHello) None (unsure 9 5 0 ∷ []) ∷
     []
 
 -- C: number 1 comes out once, and gate 1 is sure.
 abbrev pub case_c : List Line
 case_c =
-    line Zero given (Sends (first_packet 1)) (sure_tags 5 9) (surely 5 9 0 ∷ []) ∷
-    line One (brought (first_packet 1)) Out (sure_tags 9 5) (surely 9 5 1 ∷ []) ∷
-    line One (brought (first_packet 1)) (Refused 9) (sure_tags 9 5) (surely 9 5 1 ∷ []) ∷
+    line Zero given (Sends (packet first 1)) (sure_tags 5 9) (surely 5 9 0 ∷ []) ∷
+    line One (brought (packet first 1)) Out (sure_tags 9 5) (surely 9 5 1 ∷ []) ∷
+    line One (brought (packet first 1)) (Refused RepeatedNumber) (sure_tags 9 5) (surely 9 5 1 ∷ []) ∷
     []
 
 -- D: the highest is 3,000.
 abbrev pub case_d : List Line
 case_d =
-    line One (brought (first_packet 3000)) Out (sure_tags 9 5) (surely 9 5 3000 ∷ []) ∷
-    line One (brought (first_packet 952)) (Refused 8) (sure_tags 9 5) (surely 9 5 3000 ∷ []) ∷
-    line One (brought (first_packet 953)) Out (sure_tags 9 5) (surely 9 5 3000 ∷ []) ∷
+    line One (brought (packet first 3000)) Out (sure_tags 9 5) (surely 9 5 3000 ∷ []) ∷
+    line One (brought (packet first 952)) (Refused BelowWindow) (sure_tags 9 5) (surely 9 5 3000 ∷ []) ∷
+    line One (brought (packet first 953)) Out (sure_tags 9 5) (surely 9 5 3000 ∷ []) ∷
     []
 
 -- E: gate 1 restarts and has no talk, but has kept the tick of the last hello; the next hello makes a new talk.
 abbrev pub case_e : List Line
 case_e =
     line One Restart Nothing None [] ∷
-    line One (brought (first_packet 1)) (Refused 7) None [] ∷
-    line Zero given (Sends (first_packet 2)) (sure_tags 5 9) (surely 5 9 0 ∷ []) ∷
-    line One (brought (first_packet 2)) (Refused 7) None [] ∷
-    line One (Take hello 11) (Refused 5) None [] ∷
+    line One (brought (packet first 1)) (Refused NoTalk) None [] ∷
+    line Zero given (Sends (packet first 2)) (sure_tags 5 9) (surely 5 9 0 ∷ []) ∷
+    line One (brought (packet first 2)) (Refused NoTalk) None [] ∷
+    line One (Take hello (Some 11)) (Refused OldHello) None [] ∷
     line Zero Tick Nothing (sure_tags 5 9) (surely 5 9 0 ∷ []) ∷
     line Zero (Greet 1 6) (Sends next_hello) (sure_tags 5 9) (surely 5 9 0 ∷ []) ∷
-    line One (Take next_hello 10) (Sends next_reply) None (unsure 10 6 0 ∷ []) ∷
+    line One (Take next_hello (Some 10)) (Sends next_reply) None (unsure 10 6 0 ∷ []) ∷
     line Zero (brought next_reply) Sure (sure_tags 6 10) (surely 6 10 0 ∷ surely 5 9 0 ∷ []) ∷
-    line One (brought (first_packet 2)) (Refused 7) None (unsure 10 6 0 ∷ []) ∷
+    line One (brought (packet first 2)) (Refused NoTalk) None (unsure 10 6 0 ∷ []) ∷
     []
 
 -- F: what is refused for its address moves nothing: its number comes.
 abbrev pub case_f : List Line
 case_f =
-    line One (brought foreign) (Refused 11) None (unsure 10 6 0 ∷ []) ∷
-    line Zero given (Sends (next_packet 1)) (sure_tags 6 10) (surely 6 10 0 ∷ surely 5 9 0 ∷ []) ∷
-    line One (brought (next_packet 1)) Out (sure_tags 10 6) (surely 10 6 1 ∷ []) ∷
+    line One (brought foreign) (Refused ForeignAddress) None (unsure 10 6 0 ∷ []) ∷
+    line Zero given (Sends (packet next 1)) (sure_tags 6 10) (surely 6 10 0 ∷ surely 5 9 0 ∷ []) ∷
+    line One (brought (packet next 1)) Out (sure_tags 10 6) (surely 10 6 1 ∷ []) ∷
     []
 
 -- G: the highest is 1, then 5,000.
 abbrev pub case_g : List Line
 case_g =
-    line One (brought (next_packet 5000)) Out (sure_tags 10 6) (surely 10 6 5000 ∷ []) ∷
-    line One (brought (next_packet 2)) (Refused 8) (sure_tags 10 6) (surely 10 6 5000 ∷ []) ∷
+    line One (brought (packet next 5000)) Out (sure_tags 10 6) (surely 10 6 5000 ∷ []) ∷
+    line One (brought (packet next 2)) (Refused BelowWindow) (sure_tags 10 6) (surely 10 6 5000 ∷ []) ∷
     []
 
 abbrev pub lines : List Line
@@ -173,7 +178,7 @@ window_in (Some t ∷ ts) = Some t.window
 
 -- the window of the latest talk of gate 1 with gate 0
 abbrev pub window_at : Pair → Option Window
-window_at p = window_in (peer_at 0 p.one).talks
+window_at p = window_in (peer_at 0 (gate_of One p)).talks
 
 -- THE WORKED CASES HOLD.
 pub record Cases : Type 0 where

@@ -1,14 +1,15 @@
 -- What a row's event is answered and leaves, by the definitions of a gate's calls. Assumes nothing.
-use Rattle.std.specs.Prelude.{ℕ, Bool, List, [], ◌∷◌, Some, None, Ok, Err, Option, Result}
+use Rattle.std.specs.Prelude.{ℕ, Bool, List, [], ◌∷◌, Some, None, Ok, Err, Option, Result, slice_index_or, slice_set}
+use Rattle.std.specs.Option.{unwrap_or}
 use Rattle.protocol.specs.declared.refusals.Refusal.{Refusal}
-use Rattle.protocol.specs.Refusals.{refusal_number}
+use Rattle.gateway.specs.declared.state.Tags.{Tags}
 use Rattle.gateway.specs.declared.state.Talk.{Talk}
 use Rattle.gateway.specs.declared.state.Gateway.{Gateway}
 use Rattle.gateway.specs.declared.state.Word.{Word}
 use Rattle.gateway.specs.declared.state.Word.TheVariants.{Hello, Reply, Packet, Empty}
 use Rattle.gateway.specs.declared.state.Taken.{Taken}
 use Rattle.gateway.specs.declared.state.Taken.TheVariants.{Answer, Sure as Surely, Out as Outside, Alive as Living}
-use Rattle.gateway.specs.Steps.{took, took_after, put, put_after, greet, greet_after, ticked, restarted, peer_at}
+use Rattle.gateway.specs.Steps.{fresh, took, took_after, put, put_after, greet, greet_after, ticked, restarted, peer_at}
 use Rattle.cases.specs.declared.rows.Pair.{Pair}
 use Rattle.cases.specs.declared.rows.Side.{Side}
 use Rattle.cases.specs.declared.rows.Side.TheVariants.{Zero, One}
@@ -16,7 +17,6 @@ use Rattle.cases.specs.declared.rows.Event.{Event}
 use Rattle.cases.specs.declared.rows.Event.TheVariants.{Tick, Restart, Greet, Put, Take}
 use Rattle.cases.specs.declared.rows.Said.{Said}
 use Rattle.cases.specs.declared.rows.Said.TheVariants.{Nothing, Refused, Sends, Sure, Out, Alive}
-use Rattle.cases.specs.declared.rows.Tags.{Tags}
 use Rattle.cases.specs.declared.rows.Row.{Row}
 
 -- a word that goes out, if there is one
@@ -31,46 +31,46 @@ says_taken Surely = Sure
 says_taken Outside = Out
 says_taken Living = Alive
 
--- an answer of a call by the number of its refusal, if it is one
+-- an answer of a call
 abbrev pub says_took : Result Taken Refusal → Said
 says_took (Ok x) = says_taken x
-says_took (Err f) = Refused (refusal_number f)
+says_took (Err f) = Refused f
 
 abbrev pub says_put : Result (Option Word) Refusal → Said
 says_put (Ok w) = says_word w
-says_put (Err f) = Refused (refusal_number f)
+says_put (Err f) = Refused f
 
 -- WHAT A GATE SAYS TO AN EVENT.
 abbrev pub says : Event → Gateway → Said
 says Tick s = Nothing
 says Restart s = Nothing
 says (Greet e tag) s = says_word (greet e tag s)
-says (Put source goal) s = says_put (put source goal s)
-says (Take w drawn) s = says_took (took w drawn s)
+says (Put o) s = says_put (put o.source o.goal s)
+says (Take w drawn) s = says_took (took w (unwrap_or drawn 0) s)
 
 -- WHAT IT LEAVES IN MEMORY.
 abbrev pub leaves : Event → Gateway → Gateway
 leaves Tick s = ticked s
 leaves Restart s = restarted s
 leaves (Greet e tag) s = greet_after e tag s
-leaves (Put source goal) s = put_after source goal s
-leaves (Take w drawn) s = took_after w drawn s
+leaves (Put o) s = put_after o.source o.goal s
+leaves (Take w drawn) s = took_after w (unwrap_or drawn 0) s
 
 -- the two tags of a packet's talk
 abbrev pub tags_of : Said → Option Tags
-tags_of (Sends (Packet by to m h n source goal)) = Some (record { mine = m; theirs = h })
+tags_of (Sends (Packet p o)) = Some p.tags
 tags_of (Sends (Hello by to tag at')) = None
 tags_of (Sends (Reply by to tag answers)) = None
-tags_of (Sends (Empty by to m h n)) = None
+tags_of (Sends (Empty p)) = None
 tags_of Nothing = None
-tags_of (Refused n) = None
+tags_of (Refused f) = None
 tags_of Sure = None
 tags_of Out = None
 tags_of Alive = None
 
 -- The talk by which a gate would send to another, if it is sure of any.
 abbrev pub sure_of : (own other : ℕ) → Gateway → Option Tags
-sure_of own other s = tags_of (says_put (put own other s))
+sure_of own other s = tags_of (says_put (put (Some own) (Some other) s))
 
 -- the numbers of the gate on a side, and of the other
 abbrev pub own_of : Side → ℕ
@@ -81,13 +81,12 @@ abbrev pub other_of : Side → ℕ
 other_of Zero = 1
 other_of One = 0
 
+-- the gate on a side; past the two gates one of which nothing is known is read
 abbrev pub gate_of : Side → Pair → Gateway
-gate_of Zero p = p.zero
-gate_of One p = p.one
+gate_of x p = slice_index_or p.gates (own_of x) (fresh 0 0 0 0)
 
 abbrev pub with_gate : Side → Gateway → Pair → Pair
-with_gate Zero s p = record { zero = s; one = p.one }
-with_gate One s p = record { zero = p.zero; one = s }
+with_gate x s p = record { gates = slice_set p.gates (own_of x) s }
 
 -- The two gates after a row.
 abbrev pub after : Row → Pair → Pair
@@ -111,7 +110,7 @@ pub record Known : Type 0 where
   pub highest : ℕ
 
 abbrev pub known : Talk → Known
-known t = record { mine = t.mine; theirs = t.theirs; sure = t.sure; highest = t.window.top }
+known t = record { mine = t.tags.mine; theirs = t.tags.theirs; sure = t.sure; highest = t.window.top }
 
 -- the talks that stand in places of memory, the latest first
 abbrev pub known_in : List (Option Talk) → List Known

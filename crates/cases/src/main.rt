@@ -58,7 +58,7 @@ impl Show {
         row: Row,
         happened: Row,
     ) -> anyhow::Result<()> {
-        let same = happened.said == row.said && happened.sure == row.sure;
+        let same = happened == row;
         let verdict = self.verdict(same);
         println!(rt; "{name}  {happened}  {verdict}")?;
         if !same {

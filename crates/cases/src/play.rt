@@ -1,58 +1,77 @@
 // Playing rows on the code of two gates, through its public calls alone. Assumes nothing.
 ghost use Rattle.std.specs.Prelude.{◌≡◌};
-ghost use Rattle.cases.specs.Play.{says_word, says_took, says_put, says, leaves, tags_of, sure_of, after, happened};
-ghost use Rattle.cases.specs.Cases.{at_seven, three_ticks, start};
+ghost use Rattle.cases.specs.Play.{says_word, says_took, says_put, says, leaves, own_of, other_of, tags_of, sure_of, after, happened};
+ghost use Rattle.cases.specs.Cases.{at_seven, start};
 
-use crate::rows::{Event, Pair, Row, Said, Side, Tags};
-use crate::table::{brought, next_packet};
-use gateway::{Gateway, Taken, Word};
+use crate::rows::{Event, Pair, Row, Said, Side};
+use crate::table::{NEXT, brought, packet};
+use gateway::{Gateway, Owners, Tags, Taken, Terms, Word};
 use protocol::Refusal;
 
-impl Said {
-    /// A word goes out, if there is one.
-    fn of_word(word: Option<Word>) -> Said
-        ensures { result ≡ says_word word }
-    {
+/// A word goes out, if there is one.
+impl From<Option<Word>> for Said {
+    ghost from_gives = { λ word said. said ≡ says_word word };
+
+    fn from(word: Option<Word>) -> Said {
         match word {
             Some(word) => Said::Sends(word),
             None => Said::Nothing,
         }
     }
+}
 
-    /// What became of a word that was brought.
-    fn of_take(answer: Result<Taken, Refusal>) -> Said
-        ensures { result ≡ says_took answer }
-    {
+/// What became of a word that was brought.
+impl From<Result<Taken, Refusal>> for Said {
+    ghost from_gives = { λ answer said. said ≡ says_took answer };
+
+    fn from(answer: Result<Taken, Refusal>) -> Said {
         match answer {
             Ok(Taken::Answer(word)) => Said::Sends(word),
             Ok(Taken::Sure) => Said::Sure,
             Ok(Taken::Out) => Said::Out,
             Ok(Taken::Alive) => Said::Alive,
-            Err(refusal) => Said::Refused(refusal.number()),
+            Err(refusal) => Said::Refused(refusal),
         }
     }
+}
 
-    /// What became of a packet that was put in.
-    fn of_put(answer: Result<Option<Word>, Refusal>) -> Said
-        ensures { result ≡ says_put answer }
-    {
+/// What became of a packet that was put in.
+impl From<Result<Option<Word>, Refusal>> for Said {
+    ghost from_gives = { λ answer said. said ≡ says_put answer };
+
+    fn from(answer: Result<Option<Word>, Refusal>) -> Said {
         match answer {
-            Ok(word) => Said::of_word(word),
-            Err(refusal) => Said::Refused(refusal.number()),
+            Ok(word) => Said::from(word),
+            Err(refusal) => Said::Refused(refusal),
         }
     }
+}
 
+impl Said {
     /// The tags of the talk in which a packet goes out.
     fn tags(self) -> Option<Tags>
         ensures { result ≡ tags_of self }
     {
         match self {
-            Said::Sends(Word::Packet { by_tag, to_tag, .. }) => Some(Tags {
-                mine: by_tag,
-                theirs: to_tag,
-            }),
+            Said::Sends(Word::Packet { place, .. }) => Some(place.tags),
             _ => None,
         }
+    }
+}
+
+impl Side {
+    /// The number of the gate on this side.
+    fn own(self) -> u8
+        ensures { result ≡ own_of self }
+    {
+        self as u8
+    }
+
+    /// The number of the other one.
+    fn other(self) -> u8
+        ensures { result ≡ other_of self }
+    {
+        1 - self.own()
     }
 }
 
@@ -70,37 +89,36 @@ fn happen(gate: &mut Gateway, event: Event) -> Said
             gate.restart();
             Said::Nothing
         }
-        Event::Greet { gate: other, tag } => Said::of_word(gate.greet(other, tag)),
-        Event::Put { source, goal } => Said::of_put(gate.put(source, goal)),
-        Event::Take { word, drawn } => Said::of_take(gate.take(word, drawn)),
+        Event::Greet { gate: other, tag } => gate.greet(other, tag).into(),
+        Event::Put(owners) => gate.put(owners).into(),
+        Event::Take { word, drawn } => gate.take(word, drawn).into(),
     }
 }
 
-/// The talk by which a gate would send, looked for on a copy of it.
-fn sure_of(gate: Gateway, own: u8, other: u8) -> Option<Tags>
-    ensures { result ≡ sure_of own other gate }
+/// The talk by which the gate on a side would send to the other one, looked for on a copy of it.
+fn sure_of(mut gate: Gateway, side: Side) -> Option<Tags>
+    ensures { result ≡ sure_of (own_of side) (other_of side) gate }
 {
-    let mut copy = gate;
-    Said::of_put(copy.put(own, other)).tags()
+    let owners = Owners {
+        source: Some(side.own()),
+        goal: Some(side.other()),
+    };
+    Said::from(gate.put(owners)).tags()
 }
 
 /// A gate of three at tick 7; a talk is good for 600 ticks and 1,000 numbers.
 fn at_seven(own: u8) -> Gateway
     ensures { result ≡ at_seven own }
 {
-    let mut gate = Gateway::new(own, 3, 600, 1000);
-    three_ticks(&mut gate);
-    three_ticks(&mut gate);
+    let terms = Terms {
+        life: 600,
+        most: 1000,
+    };
+    let mut gate = Gateway::new(own, 3, terms);
+    for _ in 0..6 {
+        gate.tick();
+    }
     gate
-}
-
-/// Three ticks pass.
-fn three_ticks(gate: &mut Gateway)
-    ensures { gate.new ≡ three_ticks gate.old }
-{
-    gate.tick();
-    gate.tick();
-    gate.tick();
 }
 
 impl Pair {
@@ -109,8 +127,7 @@ impl Pair {
         ensures { result ≡ start }
     {
         Pair {
-            zero: at_seven(0),
-            one: at_seven(1),
+            gates: [at_seven(0), at_seven(1)],
         }
     }
 
@@ -119,34 +136,21 @@ impl Pair {
         ensures answer { result ≡ happened row self.old }
         ensures after { self.new ≡ after row self.old }
     {
-        match row.side {
-            Side::Zero => {
-                let said = happen(&mut self.zero, row.event);
-                let sure = sure_of(self.zero, 0, 1);
-                Row { said, sure, ..row }
-            }
-            Side::One => {
-                let said = happen(&mut self.one, row.event);
-                let sure = sure_of(self.one, 1, 0);
-                Row { said, sure, ..row }
-            }
-        }
+        let gate = &mut self.gates[usize::from(row.side.own())];
+        let said = happen(gate, row.event);
+        let sure = sure_of(*gate, row.side);
+        Row { said, sure, ..row }
     }
 
     /// How many of the numbers 2,953 to 4,999 may come in the talk 6 and 10 at gate 1. It changes nothing.
-    pub fn count_clear(&self) -> u32 {
-        let mut count = 0u32;
-        for number in 2953..5000u64 {
-            if let Said::Out = take_one(self.one, number) {
-                count = count.saturating_add(1);
-            }
-        }
-        count
+    pub fn count_clear(&self) -> usize {
+        (2953..5000)
+            .filter(|number| take_one(self.gates[1], *number) == Said::Out)
+            .count()
     }
 }
 
 /// What a copy of gate 1 says to a packet of the talk 6 and 10.
-fn take_one(gate: Gateway, number: u64) -> Said {
-    let mut copy = gate;
-    happen(&mut copy, brought(next_packet(number)))
+fn take_one(mut gate: Gateway, number: u64) -> Said {
+    happen(&mut gate, brought(packet(NEXT, number)))
 }

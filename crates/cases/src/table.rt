@@ -1,10 +1,13 @@
-// The worked cases A to G, as one table: its rows are proved to be those of the specification, of which the theorem speaks. Assumes nothing.
-ghost use Rattle.std.specs.Prelude.{◌≡◌};
-ghost use Rattle.cases.specs.declared.rows.Side.TheVariants.{Zero, One};
-ghost use Rattle.cases.specs.Cases.{Cases, rows_of, case_a, case_b, case_c, case_d, case_e, case_f, case_g, brought, first_packet, next_packet, sure_tags, row_of};
+// The worked cases A to G, as one table: its rows are proved to be those of the specification, of which the theorem speaks. Each case has a function, as its array
+// has a length of its own. Assumes nothing.
+ghost use Rattle.std.specs.Prelude.{◌≡◌, Some};
+ghost use Rattle.cases.specs.Cases.{Cases, rows_of, case_a, case_b, case_c, case_d, case_e, case_f, case_g, brought, packet, sure_tags, row_of};
 
-use crate::rows::{Event, Row, Said, Side, Tags};
-use gateway::Word;
+use crate::rows::Said::{self, Nothing, Out, Refused, Sends, Sure};
+use crate::rows::Side::{self, One, Zero};
+use crate::rows::{Event, Row};
+use gateway::{InTalk, Owners, Tags, Word};
+use protocol::Refusal::{BelowWindow, ForeignAddress, NoTalk, OldHello, RepeatedNumber};
 
 /// A theorem: every row of the table happens as it says, and what is in memory then is as it says.
 pub fn cases_hold()
@@ -51,46 +54,46 @@ const NEXT_REPLY: Word = Word::Reply {
     answers: 6,
 };
 
-/// The first packet of gate 0's in the talk 6 and 10, from an address of gate 2's.
-const FOREIGN: Word = Word::Packet {
-    by: 0,
-    to: 1,
-    by_tag: 6,
-    to_tag: 10,
-    number: 1,
-    source: 2,
-    goal: 1,
+/// The talk that the first hello makes, as gate 0 has it; and the one of the hello after the restart.
+const FIRST: Tags = Tags { mine: 5, theirs: 9 };
+
+pub const NEXT: Tags = Tags {
+    mine: 6,
+    theirs: 10,
 };
 
-/// A packet of gate 0's in the talk 5 and 9.
-fn first_packet(number: u64) -> Word
-    ensures { result ≡ first_packet number }
+/// What goes from gate 0 to gate 1.
+const OWN: Owners = Owners {
+    source: Some(0),
+    goal: Some(1),
+};
+
+/// A packet of gate 0's in a talk.
+pub fn packet(tags: Tags, number: u64) -> Word
+    ensures { result ≡ packet tags number }
 {
-    Word::Packet {
+    let place = InTalk {
         by: 0,
         to: 1,
-        by_tag: 5,
-        to_tag: 9,
+        tags,
         number,
-        source: 0,
-        goal: 1,
-    }
+    };
+    Word::Packet { place, owners: OWN }
 }
 
-/// A packet of gate 0's in the talk 6 and 10.
-pub fn next_packet(number: u64) -> Word
-    ensures { result ≡ next_packet number }
-{
-    Word::Packet {
+/// The first packet of gate 0's in the next talk, from an address of gate 2's.
+const FOREIGN: Word = Word::Packet {
+    place: InTalk {
         by: 0,
         to: 1,
-        by_tag: 6,
-        to_tag: 10,
-        number,
-        source: 0,
-        goal: 1,
-    }
-}
+        tags: NEXT,
+        number: 1,
+    },
+    owners: Owners {
+        source: Some(2),
+        goal: Some(1),
+    },
+};
 
 /// A hello is to be made to gate 1.
 fn greeting(tag: u64) -> Event
@@ -100,12 +103,13 @@ fn greeting(tag: u64) -> Event
 }
 
 /// A packet is put in at gate 0, for gate 1.
-const GIVEN: Event = Event::Put { source: 0, goal: 1 };
+const GIVEN: Event = Event::Put(OWN);
 
 /// A hello is brought, with a tag drawn for its reply.
 fn hello(word: Word, drawn: u64) -> Event
-    ensures { result ≡ Event.Take word drawn }
+    ensures { result ≡ Event.Take word (Some drawn) }
 {
+    let drawn = Some(drawn);
     Event::Take { word, drawn }
 }
 
@@ -113,7 +117,7 @@ fn hello(word: Word, drawn: u64) -> Event
 pub fn brought(word: Word) -> Event
     ensures { result ≡ brought word }
 {
-    Event::Take { word, drawn: 0 }
+    Event::Take { word, drawn: None }
 }
 
 /// The tags of a talk that a gate is sure of.
@@ -123,24 +127,10 @@ fn tags(mine: u64, theirs: u64) -> Option<Tags>
     Some(Tags { mine, theirs })
 }
 
-/// A row of gate 0's.
-fn zero(event: Event, said: Said, sure: Option<Tags>) -> Row
-    ensures { result ≡ row_of Zero event said sure }
+/// A row.
+fn row(side: Side, event: Event, said: Said, sure: Option<Tags>) -> Row
+    ensures { result ≡ row_of side event said sure }
 {
-    let side = Side::Zero;
-    Row {
-        side,
-        event,
-        said,
-        sure,
-    }
-}
-
-/// A row of gate 1's.
-fn one(event: Event, said: Said, sure: Option<Tags>) -> Row
-    ensures { result ≡ row_of One event said sure }
-{
-    let side = Side::One;
     Row {
         side,
         event,
@@ -154,9 +144,9 @@ pub fn case_a() -> [Row; 3]
     ensures { result ≡ rows_of case_a }
 {
     [
-        zero(greeting(5), Said::Sends(HELLO), None),
-        one(hello(HELLO, 9), Said::Sends(REPLY), None),
-        zero(brought(REPLY), Said::Sure, tags(5, 9)),
+        row(Zero, greeting(5), Sends(HELLO), None),
+        row(One, hello(HELLO, 9), Sends(REPLY), None),
+        row(Zero, brought(REPLY), Sure, tags(5, 9)),
     ]
 }
 
@@ -165,8 +155,8 @@ pub fn case_b() -> [Row; 2]
     ensures { result ≡ rows_of case_b }
 {
     [
-        one(hello(HELLO, 11), Said::Refused(5), None),
-        one(hello(HELD_BACK, 11), Said::Refused(5), None),
+        row(One, hello(HELLO, 11), Refused(OldHello), None),
+        row(One, hello(HELD_BACK, 11), Refused(OldHello), None),
     ]
 }
 
@@ -175,9 +165,14 @@ pub fn case_c() -> [Row; 3]
     ensures { result ≡ rows_of case_c }
 {
     [
-        zero(GIVEN, Said::Sends(first_packet(1)), tags(5, 9)),
-        one(brought(first_packet(1)), Said::Out, tags(9, 5)),
-        one(brought(first_packet(1)), Said::Refused(9), tags(9, 5)),
+        row(Zero, GIVEN, Sends(packet(FIRST, 1)), tags(5, 9)),
+        row(One, brought(packet(FIRST, 1)), Out, tags(9, 5)),
+        row(
+            One,
+            brought(packet(FIRST, 1)),
+            Refused(RepeatedNumber),
+            tags(9, 5),
+        ),
     ]
 }
 
@@ -186,9 +181,14 @@ pub fn case_d() -> [Row; 3]
     ensures { result ≡ rows_of case_d }
 {
     [
-        one(brought(first_packet(3000)), Said::Out, tags(9, 5)),
-        one(brought(first_packet(952)), Said::Refused(8), tags(9, 5)),
-        one(brought(first_packet(953)), Said::Out, tags(9, 5)),
+        row(One, brought(packet(FIRST, 3000)), Out, tags(9, 5)),
+        row(
+            One,
+            brought(packet(FIRST, 952)),
+            Refused(BelowWindow),
+            tags(9, 5),
+        ),
+        row(One, brought(packet(FIRST, 953)), Out, tags(9, 5)),
     ]
 }
 
@@ -197,16 +197,16 @@ pub fn case_e() -> [Row; 10]
     ensures { result ≡ rows_of case_e }
 {
     [
-        one(Event::Restart, Said::Nothing, None),
-        one(brought(first_packet(1)), Said::Refused(7), None),
-        zero(GIVEN, Said::Sends(first_packet(2)), tags(5, 9)),
-        one(brought(first_packet(2)), Said::Refused(7), None),
-        one(hello(HELLO, 11), Said::Refused(5), None),
-        zero(Event::Tick, Said::Nothing, tags(5, 9)),
-        zero(greeting(6), Said::Sends(NEXT_HELLO), tags(5, 9)),
-        one(hello(NEXT_HELLO, 10), Said::Sends(NEXT_REPLY), None),
-        zero(brought(NEXT_REPLY), Said::Sure, tags(6, 10)),
-        one(brought(first_packet(2)), Said::Refused(7), None),
+        row(One, Event::Restart, Nothing, None),
+        row(One, brought(packet(FIRST, 1)), Refused(NoTalk), None),
+        row(Zero, GIVEN, Sends(packet(FIRST, 2)), tags(5, 9)),
+        row(One, brought(packet(FIRST, 2)), Refused(NoTalk), None),
+        row(One, hello(HELLO, 11), Refused(OldHello), None),
+        row(Zero, Event::Tick, Nothing, tags(5, 9)),
+        row(Zero, greeting(6), Sends(NEXT_HELLO), tags(5, 9)),
+        row(One, hello(NEXT_HELLO, 10), Sends(NEXT_REPLY), None),
+        row(Zero, brought(NEXT_REPLY), Sure, tags(6, 10)),
+        row(One, brought(packet(FIRST, 2)), Refused(NoTalk), None),
     ]
 }
 
@@ -215,9 +215,9 @@ pub fn case_f() -> [Row; 3]
     ensures { result ≡ rows_of case_f }
 {
     [
-        one(brought(FOREIGN), Said::Refused(11), None),
-        zero(GIVEN, Said::Sends(next_packet(1)), tags(6, 10)),
-        one(brought(next_packet(1)), Said::Out, tags(10, 6)),
+        row(One, brought(FOREIGN), Refused(ForeignAddress), None),
+        row(Zero, GIVEN, Sends(packet(NEXT, 1)), tags(6, 10)),
+        row(One, brought(packet(NEXT, 1)), Out, tags(10, 6)),
     ]
 }
 
@@ -226,7 +226,12 @@ pub fn case_g() -> [Row; 2]
     ensures { result ≡ rows_of case_g }
 {
     [
-        one(brought(next_packet(5000)), Said::Out, tags(10, 6)),
-        one(brought(next_packet(2)), Said::Refused(8), tags(10, 6)),
+        row(One, brought(packet(NEXT, 5000)), Out, tags(10, 6)),
+        row(
+            One,
+            brought(packet(NEXT, 2)),
+            Refused(BelowWindow),
+            tags(10, 6),
+        ),
     ]
 }

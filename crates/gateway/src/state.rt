@@ -52,7 +52,7 @@ pub struct Peer {
     pub(crate) talks: [Option<Talk>; MAX_TALKS],
     /// The hellos to it that wait, each in the place of its tick.
     pub(crate) waits: [Option<Wait>; WAITS],
-    /// The tick that a hello from it has to be above: that of the last one taken. No option: a hello of tick 0 is refused before the first one too.
+    /// The tick of the last hello taken from it, above which the next one has to be; 0 before the first, and no option, as a hello of tick 0 is never taken.
     pub(crate) last_hello: u64,
 }
 
@@ -66,7 +66,7 @@ pub struct Gateway {
     pub(crate) terms: Terms,
     /// The clock.
     pub(crate) now: u64,
-    /// The tick that the clock has to be above for a hello: that of the last restart. No option: clocks begin with 1, so 0 lets all of them pass.
+    /// The tick of the last restart, above which the clock has to be for a hello; 0 before the first, and no option, as all clocks are above 0.
     pub(crate) fell: u64,
     /// What is remembered of each gate, by its number.
     pub(crate) peers: [Peer; MAX_GATES],
@@ -94,7 +94,7 @@ pub struct Owners {
     pub goal: Option<u8>,
 }
 
-/// A word (a datagram on the outer network) that was unsealed, or is to be sealed.
+/// A word (a datagram on the outer network) that was unsealed, or is to be sealed. Its two gates stand beside what it says: that is plainer than a type for them.
 #[derive(Clone, Copy, PartialEq, Eq, Debug)]
 pub enum Word {
     /// A wish for a talk: a tag drawn for it, and the maker's tick.

@@ -9,7 +9,7 @@ pub const WORDS: usize = 33;
 /// How far below the highest number a number may still come.
 pub const SPAN: u64 = (WORDS as u64 - 1) * WORD_BITS;
 
-/// The numbers that came: the highest, 0 where none did, and a bit for each number in the words up to it.
+/// The numbers that came: the highest, and a bit for each number in the words up to it. Before any came the highest is 0, and no option: 0 is below all numbers.
 #[derive(Clone, Copy)]
 pub struct Window {
     pub(crate) top: u64,
