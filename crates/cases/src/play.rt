@@ -115,7 +115,7 @@ fn at_seven(own: u8) -> Gateway
         most: 1000,
     };
     let mut gate = Gateway::new(own, 3, terms);
-    for _ in 0..6 {
+    for _ in 0..6u8 {
         gate.tick();
     }
     gate

@@ -44,6 +44,7 @@ impl fmt::Display for Said {
 }
 
 /// A word as the rows tell it: its kind, and what matters of it here.
+#[derive(Clone, Copy)]
 struct Told(Word);
 
 impl fmt::Display for Told {
