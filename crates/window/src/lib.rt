@@ -129,6 +129,7 @@ fn bit_of(n: u64) -> u64
 }
 
 // The ring with the words cleared that are passed over when the highest number grows from `top` to `n`: at most all.
+#[tactic(auto, using(crate::proofs::Ring::cleared_more), unfolding(crate::specs::Heard::cleared))]
 fn clear(mut ring: [u64; WORDS], top: u64, n: u64) -> [u64; WORDS]
     ensures { result ≡ passed top n ring }
 {
@@ -150,6 +151,7 @@ pub fn verdicts_are_as_in_talks()
 {}
 
 /// A theorem: the edges of the span and of the ring, each by its name.
+#[tactic(auto, using(crate::proofs::Edges::edges))]
 pub fn edges_hold()
     ensures { Edges }
 {}
