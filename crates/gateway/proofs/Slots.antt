@@ -1,7 +1,7 @@
 -- What chains over places find, a map of an array, and what a change in the first place that passes a test leaves. Assumes nothing.
 use Rattle.std.proofs.Common.{◌≡◌, ℕ, zero, suc, ◌+◌, ◌<◌, Bool, true, false, cond, ltb, List, [], ◌∷◌, map, length, get_or, set, Some, None, Option, is_some, Bor, sym, refl, ap, ◌∙◌, subst, arith}
 use denote.Param.Members.{Mut}
-use Rattle.std.proofs.lemmas.Bool.{cond-true, cond-false, ltb-false}
+use Rattle.std.proofs.lemmas.Bool.{false≢true, cond-true, cond-false, ltb-false}
 use Rattle.std.proofs.lemmas.Iterator.{YieldsList}
 use Rattle.std.proofs.lemmas.Iterator.Adapters.{YieldsList-from_flatten, YieldsList-from_once, option_map_id}
 use Rattle.std.proofs.lemmas.Iterator.Consumers.{YieldsList-from_shown}
@@ -86,16 +86,13 @@ module _ {A B F : Type 0} {g : Mut F (A × Unit {0}) B} (h : A → B) (f : F) (x
       same_lists ys (map h xs) (m.long ∙ sym l ∙ sym (length-map xs h))
       (λ k e j. let p = mapped_at n 0 k k m.each (omega (arith, m.long)) (omega arith) in p.2 e ∙ sym (get_or-map h xs k p.0 e (omega (arith, m.long)) ∙ ap h (p.1 p.0)))
 
-not_true : false ≡ true → ⊥
-not_true e = let z : ◌≡◌ {A = ℕ} 0 1 = ap (λ b. cond b 1 0) e in omega arith
-
 -- The place of the first that passes a test, and that one replaced.
 module _ {A : Type 0} (p : A → Bool) (y : A) where
   replaced_from : (xs : List (Option A)) (i : ℕ) → i < length xs → holds p (get_or xs i None) ≡ true →
       ((k : ℕ) → k < i → holds p (get_or xs k None) ≡ false) → set xs i (Some y) ≡ replaced p y xs
   unfolding replaced
   replaced_from [] i l t f = absurd (omega arith)
-  replaced_from (None ∷ xs) zero l t f = absurd (not_true t)
+  replaced_from (None ∷ xs) zero l t f = absurd (false≢true t)
   replaced_from (None ∷ xs) (suc i) l t f = ap (λ zs. None ∷ zs) (replaced_from xs i (omega arith) t (λ k m. f (suc k) (omega arith)))
   replaced_from (Some x ∷ xs) zero l t f = sym (cond-true (p x) (Some y ∷ xs) (Some x ∷ replaced p y xs) t)
   replaced_from (Some x ∷ xs) (suc i) l t f =
@@ -116,5 +113,5 @@ module _ {A : Type 0} (p : A → Bool) (y : A) where
     where
       go : (b : Bool) → ltb (position_or_len (holds p) xs) (length xs) ≡ b → ◌≡◌ {A = Option ℕ} (cond b (Some (position_or_len (holds p) xs)) None) None →
           (k : ℕ) → k < length xs → k < position_or_len (holds p) xs
-      go true m n k l = absurd (not_true (sym (ap is_some n)))
+      go true m n k l = absurd (false≢true (sym (ap is_some n)))
       go false m n k l = let h = ltb-false (position_or_len (holds p) xs) (length xs) m in omega arith

@@ -2,7 +2,7 @@
 use Rattle.std.proofs.Common.{◌≡◌, ℕ, ◌+◌, ◌%◌, ◌<◌, ◌≤◌, Bool, true, false, cond, not, ◌&&◌, ◌||◌, eqb, ltb, List, [], ◌∷◌, sym, refl, ap, ◌∙◌, subst, ⊎_elim, arith}
 use lib.ListN.{get_or-replicate}
 use Rattle.gates.specs.Talk.{is_in, larger, lives}
-use Rattle.std.proofs.lemmas.Bool.{cases_eq, cases_lt, eq-eqb, ne_eqb, ltb-true}
+use Rattle.std.proofs.lemmas.Bool.{false≢true, cases_eq, cases_lt, eq-eqb, ne_eqb, ltb-true}
 use Rattle.std.proofs.lemmas.Bool.Decides.{nat_tests}
 use Rattle.window.specs.Heard.{words, word_bits, span, block, place, bit, too_old, is_marked, verdict_of, passed, raised, noted, blank_at, empty_window}
 use Rattle.window.specs.Heard.{look_bits, after_bits, Stands, is_fresh, AsInTalks}
@@ -25,7 +25,7 @@ unfolding is_in
 blank_stands top =
     record {
       highest = refl;
-      above = λ n e. absurd (let z : ◌≡◌ {A = ℕ} 0 1 = cc in omega arith);
+      above = λ n e. absurd (false≢true e);
       whole = refl;
       bits = λ n h k. ap (λ x. bit x (n % word_bits)) (get_or-replicate words (place n) 0 0 (omega arith)) ∙ bit-zero (n % word_bits);
     }
@@ -50,9 +50,7 @@ pub fresh_tells : (top : ℕ) (heard : List ℕ) (n : ℕ) → verdict_of top he
 fresh_tells top heard n e = go (too_old top n) (is_in n heard) e
   where
     go : (o i : Bool) → cond o TooOld (cond i Came Fresh) ≡ Fresh → (o ≡ false) × (i ≡ false)
-    go true i e = absurd (let z : ◌≡◌ {A = ℕ} 0 1 = cc in omega arith)
-    go false true e = absurd (let z : ◌≡◌ {A = ℕ} 0 1 = cc in omega arith)
-    go false false e = (refl, refl)
+    go o i e = grind arith
 
 -- a number of the ring's blocks is noted
 pub noted-stands : (w : Window) (top : ℕ) (heard : List ℕ) (n : ℕ) → Stands w top heard → n ≤ top → top < n + span → Stands (noted n w) top (n ∷ heard)
@@ -122,10 +120,7 @@ pub after_old : (w : Window) (n : ℕ) → look_bits w n ≡ TooOld → after_bi
 after_old w n e = go (too_old w.top n) (ltb w.top n) (is_marked n w.ring) e
   where
     go : (o a i : Bool) → cond o TooOld (cond a Fresh (cond i Came Fresh)) ≡ TooOld → cond o w (noted n (raised n w)) ≡ w
-    go true a i e = refl
-    go false true i e = absurd (let z : ◌≡◌ {A = ℕ} 0 1 = cc in omega arith)
-    go false false true e = absurd (let z : ◌≡◌ {A = ℕ} 0 1 = cc in omega arith)
-    go false false false e = absurd (let z : ◌≡◌ {A = ℕ} 0 1 = cc in omega arith)
+    go o a i e = grind arith
 
 -- the verdict is that of a talk of the abstract protocol
 pub as_in_talks : AsInTalks
