@@ -4,13 +4,13 @@ use Rattle.gates.specs.Code.{Code}
 use Rattle.gates.proofs.Refines.{code-keeps}
 use Rattle.refinement.specs.Relation.{rules_of, Stands}
 use Rattle.refinement.specs.Term.{calls, AsAsked}
-use Rattle.refinement.proofs.Followed.{start-stands, hears_so}
+use Rattle.refinement.proofs.Followed.{start_stands, hears_so}
 use Rattle.refinement.proofs.Playing.{does-own, hears-own, does_so}
 
 code : (k life most : ℕ) (owner : ℕ → ℕ) → k ≤ 32 → most < 2 ^ 32 → Code (rules_of life most owner) (calls k life most owner) (λ a s now g. Stands k life most a s now g)
 code k life most owner few fits =
     record {
-      first_stands = λ a less. start-stands k life most a;
+      first_stands = λ a less. start_stands k life most a;
       doing_own = λ a c s now g st. does-own k life most few fits owner a c s now g st;
       hearing_own = λ a x ts s i now g st. hears-own k life most few fits owner a x ts s i;
       hearing_brings = λ a x ts s i. (_, _, refl);

@@ -1,17 +1,17 @@
 -- Gates that were just made are at the beginning of a run; and playing one event more. Assumes nothing.
 use Rattle.std.proofs.Common.{◌≡◌, ℕ, zero, suc, ◌+◌, ◌<◌, List, [], ◌∷◌, ◌++◌, length, get_or, take, sym, refl, ap, ◌∙◌, subst, ⊎_elim, add-one, arith, length-append}
-use Rattle.std.proofs.lemmas.List.{take_more, get_or_default, get_or_push, get_or_append_left}
-use Rattle.std.proofs.lemmas.Bool.{cases_eq}
+use Rattle.std.proofs.lemmas.List.{take_more, get_or_default}
+use Rattle.std.proofs.lemmas.List.FromFn.{length-map-range_with_len, get_or-map-range_with_len}
 use Rattle.gates.specs.World.{empty_gate, world}
 use Rattle.gates.specs.Promise.{GreetsBelow, lied}
 use Rattle.gateway.specs.declared.state.Gateway.{Gateway}
 use Rattle.gateway.specs.Steps.{fresh}
 use Rattle.refinement.specs.declared.state.Event.{Event}
-use Rattle.refinement.specs.declared.state.Event.TheVariants.{Tick}
+use Rattle.refinement.specs.declared.state.EventKind.TheVariants.{Tick}
 use Rattle.refinement.specs.declared.state.Letter.{Letter}
 use Rattle.refinement.specs.Relation.{Stands}
-use Rattle.refinement.specs.Sea.{Books, no_gate, happens, plays, new_gates, backwards, words_of, puts_of, outs_of, Plays, Begun}
-use Rattle.refinement.proofs.Followed.{start-stands}
+use Rattle.refinement.specs.Sea.{Books, no_gate, happens, plays, new_gates, at_gate, backwards, words_of, puts_of, outs_of, Plays, Begun}
+use Rattle.refinement.proofs.Followed.{start_stands}
 use Rattle.refinement.proofs.Playing.{all-plays}
 
 plays-append : (owners : List ℕ) (xs ys : List Event) (b : Books) → plays owners (xs ++ ys) b ≡ plays owners ys (plays owners xs b)
@@ -36,47 +36,21 @@ plays_more owners events b i e l s =
 
 -- the same, of the event that stands there
 pub plays_next : (owners : List ℕ) (events : List Event) (b : Books) (i : ℕ) → i < length events →
-    plays owners (take (i + 1) events) b ≡ happens owners (get_or events i (Tick 0)) (plays owners (take i events) b)
+    plays owners (take (i + 1) events) b ≡ happens owners (get_or events i (at_gate 0 Tick)) (plays owners (take i events) b)
 plays_next owners events b i l =
-    plays_more owners events b i (get_or events i (Tick 0)) l (get_or_default events i (Tick 0) (get_or events i (Tick 0)) l)
+    plays_more owners events b i (get_or events i (at_gate 0 Tick)) l (get_or_default events i (at_gate 0 Tick) (get_or events i (at_gate 0 Tick)) l)
 
 -- what was played keeps the promise
 pub played-keeps : (owners : List ℕ) (events : List Event) (b after : Books) → after ≡ plays owners events b → Plays owners events b after
 played-keeps owners events b after e = subst (Plays owners events b) (sym e) (all-plays owners events b)
 
-pub new_none : (k life most : ℕ) → new_gates k life most 0 ≡ []
-unfolding new_gates
-new_none k life most = refl
-
-pub new_more : (k life most n : ℕ) → new_gates k life most (n + 1) ≡ new_gates k life most n ++ (fresh n k life most ∷ [])
-unfolding new_gates
-new_more k life most n = ap (new_gates k life most) (add-one n)
-
-new-length : (k life most n : ℕ) → length (new_gates k life most n) ≡ n
-unfolding new_gates
-new-length k life most zero = refl
-new-length k life most (suc n) = length-append (new_gates k life most n) (fresh n k life most ∷ []) ∙ (let h = new-length k life most n in omega arith)
-
-new-at : (k life most n a : ℕ) → a < n → get_or (new_gates k life most n) a no_gate ≡ fresh a k life most
-unfolding new_gates
-new-at k life most zero a l = absurd (omega arith)
-new-at k life most (suc n) a l = ⊎_elim last (λ ne. before (λ h. new-at k life most n a h) ne) (cases_eq a n)
-  where
-    last : a ≡ n → get_or (new_gates k life most n ++ (fresh n k life most ∷ [])) a no_gate ≡ fresh a k life most
-    last e = ap (λ z. get_or (new_gates k life most n ++ (fresh n k life most ∷ [])) z no_gate) e ∙ (get_or_push (new_gates k life most n) (fresh n k life most) no_gate n (new-length k life most n) ∙ ap (λ z. fresh z k life most) (sym e))
-
-    before : (a < n → get_or (new_gates k life most n) a no_gate ≡ fresh a k life most) → (a ≡ n → ⊥) → get_or (new_gates k life most n ++ (fresh n k life most ∷ [])) a no_gate ≡ fresh a k life most
-    before new-at' ne =
-        let less : a < n = omega arith in
-        get_or_append_left (new_gates k life most n) (fresh n k life most ∷ []) no_gate a (let h = new-length k life most n in omega arith) ∙ new-at' less
-
 pub begun : (k life most : ℕ) (gates : List Gateway) (net put out : List Letter) → gates ≡ new_gates k life most k → net ≡ [] → put ≡ [] → out ≡ [] →
     Begun k life most (record { gates = gates; net = net; put = put; out = out })
-unfolding world GreetsBelow lied backwards
+unfolding Begun world GreetsBelow lied backwards
 begun k life most gates net put out g n p o owner =
     record {
-      all = ap length g ∙ new-length k life most k;
-      stands = λ a l. subst (λ s. Stands k life most a s 1 empty_gate) (sym (ap (λ z. get_or z a no_gate) g ∙ new-at k life most k a l)) (start-stands k life most a);
+      all = ap length g ∙ length-map-range_with_len (λ a. fresh a k life most) 0 k;
+      stands = λ a l. subst (λ s. Stands k life most a s 1 empty_gate) (sym (ap (λ z. get_or z a no_gate) g ∙ get_or-map-range_with_len (λ z. fresh z k life most) 0 k a a no_gate l (omega arith))) (start_stands k life most a);
       net_so = sym (ap words_of n);
       put_so = sym (ap puts_of p);
       out_so = sym (ap outs_of o);
@@ -84,7 +58,5 @@ begun k life most gates net put out g n p o owner =
       honest = λ a. refl;
     }
 
--- for the loop that makes the gates, and for the one that plays the events
-pub ruleset beginning = (new_none, new_more)
-
-pub ruleset playing = (plays-none, plays_next)
+-- for the loop that plays the events
+pub ruleset playing = (plays-none, plays_next, played-keeps)

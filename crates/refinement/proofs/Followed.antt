@@ -30,6 +30,7 @@ hears_so k life most few owner es a (PacketWord by f m h n y) ts s i b st p new 
 hears_so k life most few owner es a (EmptyWord by f m h n) ts s i b st p new = empty_so k life most few owner es a by f m h n ts s i b st p
 
 pub take_follows : (word : Word) (drawn : ℕ) (s : Gateway) (res : Result Taken Refusal) (after : Gateway) → res ≡ took word drawn s → after ≡ took_after word drawn s → TakeFollows word drawn s res after
+unfolding TakeFollows
 take_follows word drawn s res after er ea k life most owner es a x ts i few b is_IsWord is-drawn st p new =
     subst
     (λ d. Follows (Stands k life most a) a (world (rules_of life most owner) es) (world (rules_of life most owner) (hearing owner a x ts s i ++ es)) d)
@@ -46,6 +47,7 @@ take_follows word drawn s res after er ea k life most owner es a x ts i few b is
     same j = record { after = a_is j; sent = sent_for (r_is j); put = []; out = out_for a x (r_is j); drew = drew_for (is-drawn j) (r_is j) }
 
 pub put_follows : (source goal : ℕ) (s : Gateway) (res : Result (Option Word) Refusal) (after : Gateway) → res ≡ put source goal s → after ≡ put_after source goal s → PutFollows source goal s res after
+unfolding PutFollows
 put_follows source goal s res after er ea k life most owner es a x fits from to st =
     subst
     (λ d. Follows (Stands k life most a) a (world (rules_of life most owner) es) (world (rules_of life most owner) (Puts a x ∷ es)) d)
@@ -62,6 +64,7 @@ put_follows source goal s res after er ea k life most owner es a x fits from to 
     same j = record { after = a_is j; sent = sent_as x (gone_out (r_is j)); put = put_as x (gone_out (r_is j)); out = []; drew = [] }
 
 pub greet_follows : (e t : ℕ) (s : Gateway) (res : Option Word) (after : Gateway) → res ≡ greet e t s → after ≡ greet_after e t s → GreetFollows e t s res after
+unfolding GreetFollows
 greet_follows e t s res after er ea k life most owner es a fits st new =
     subst
     (λ d. Follows (Stands k life most a) a (world (rules_of life most owner) es) (world (rules_of life most owner) (doing a (Says e t) s ++ es)) d)
@@ -69,6 +72,7 @@ greet_follows e t s res after er ea k life most owner es a fits st new =
     (says_so k life most fits owner es a e t s st new)
 
 pub tick_follows : (s after : Gateway) → after ≡ ticked s → TickFollows s after
+unfolding TickFollows
 tick_follows s after e k life most owner es a fits st =
     subst
     (λ z. Follows (Stands k life most a) a (world (rules_of life most owner) es) (world (rules_of life most owner) (doing a Ticks s ++ es)) (record { after = z; sent = []; put = []; out = []; drew = [] }))
@@ -76,6 +80,7 @@ tick_follows s after e k life most owner es a fits st =
     (ticks_so k life most fits owner es a s st)
 
 pub restart_follows : (s after : Gateway) → after ≡ restarted s → RestartFollows s after
+unfolding RestartFollows
 restart_follows s after e k life most owner es a fits st =
     subst
     (λ z. Follows (Stands k life most a) a (world (rules_of life most owner) es) (world (rules_of life most owner) (doing a Falls s ++ es)) (record { after = z; sent = []; put = []; out = []; drew = [] }))
@@ -83,9 +88,9 @@ restart_follows s after e k life most owner es a fits st =
     (falls_so k life most fits owner es a s st)
 
 -- a gate that was just made stands for one before anything happened
-pub start-stands : (k life most a : ℕ) → Stands k life most a (fresh a k life most) 1 empty_gate
+pub start_stands : (k life most a : ℕ) → Stands k life most a (fresh a k life most) 1 empty_gate
 unfolding with_peer Agrees Vacant waits_for first_that
-start-stands k life most a =
+start_stands k life most a =
     record {
       own_so = refl;
       gates_so = refl;
@@ -113,4 +118,4 @@ start-stands k life most a =
 
 -- the same, of a memory that is known to be such a gate's
 pub made : (k life most a : ℕ) (s : Gateway) → s ≡ fresh a k life most → Stands k life most a s 1 empty_gate
-made k life most a s e = subst (λ z. Stands k life most a z 1 empty_gate) (sym e) (start-stands k life most a)
+made k life most a s e = subst (λ z. Stands k life most a z 1 empty_gate) (sym e) (start_stands k life most a)

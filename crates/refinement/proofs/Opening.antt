@@ -1,6 +1,7 @@
 -- It always can, over the code: a hello of a new tick and its reply give two gates a talk, and what is then put in comes out. Assumes nothing.
-use Rattle.std.proofs.Common.{◌≡◌, ℕ, zero, suc, ◌+◌, ◌-◌, ◌%◌, ◌^◌, ◌<◌, ◌≤◌, Bool, true, false, cond, not, ◌&&◌, ◌||◌, eqb, ltb, leb, List, [], ◌∷◌, ◌++◌, length, get_or, take, set, is_some, Some, None, Ok, Option, sym, refl, ap, ◌∙◌, subst, ap₂, append-nil, le_of_suc-le-suc, arith, length-append, length-set, get_or-set_other, get_or-set_same}
+use Rattle.std.proofs.Common.{◌≡◌, ℕ, zero, suc, ◌+◌, ◌-◌, ◌%◌, ◌^◌, ◌<◌, ◌≤◌, Bool, true, false, cond, not, ◌&&◌, ◌||◌, eqb, ltb, leb, List, [], ◌∷◌, ◌++◌, length, get_or, slice_get, take, set, is_some, Some, None, Ok, Option, sym, refl, ap, ◌∙◌, subst, ap₂, append-nil, le_of_suc-le-suc, arith, length-append, length-set, get_or-set_other, get_or-set_same}
 use Rattle.std.proofs.lemmas.List.{get_or_push}
+use Rattle.std.proofs.lemmas.Option.{slice_get-get_or}
 use Rattle.std.proofs.lemmas.Bool.{cond-true, cond-false, eq-eqb, ne_eqb, and_from, or_from, lt-ltb, le-leb, lt-leb, not_from_false}
 use Rattle.gates.specs.World.{world}
 use Rattle.gates.proofs.Steps.{inv}
@@ -15,12 +16,12 @@ use Rattle.gateway.specs.Peers.{can_answer, is_greeted, asked}
 use Rattle.gateway.specs.Steps.{blank, peer_at, storing, is_peer, answer, leaves, hello_fault, hello_peer, reply_fault, reply_peer, found_in, found_talk, if_owned, took, took_after, put_fault, packet_in, sending, put, put_after, may_greet, greet, greet_after, ticked}
 use Rattle.gateway.specs.Steps.{taken as answered-as}
 use Rattle.refinement.specs.declared.state.Letter.{Letter}
-use Rattle.refinement.specs.declared.state.Event.{Event}
-use Rattle.refinement.specs.declared.state.Event.TheVariants.{Tick, Greet, Put, Bring}
+use Rattle.refinement.specs.declared.state.EventKind.{EventKind}
+use Rattle.refinement.specs.declared.state.EventKind.TheVariants.{Tick, Greet, Put, Bring}
 use Rattle.refinement.specs.declared.state.Outcome.{Outcome}
 use Rattle.refinement.specs.Relation.{rules_of, SamePeer, Stands}
 use Rattle.refinement.specs.Calls.{as_code, gone_out}
-use Rattle.refinement.specs.Sea.{owner_in, nobody, sealed_of, Books, letter_of, silent, brought_out, list_of, no_gate, no_letter, entered, gate_of, letter_in, is_there, after_of, outcome_of, happens, plays, CanOpen}
+use Rattle.refinement.specs.Sea.{owner_in, sealed_of, Books, letter_of, silent, brought_out, list_of, no_gate, entered, entered_if, after_letter, letter_adds, after_of, outcome_of, at_gate, happens, plays, CanOpen}
 use Rattle.refinement.proofs.Standing.{peer_bound}
 
 -- no hello was said in a tick that is above all of theirs
@@ -197,26 +198,19 @@ record Stage (k a e : ℕ) (b : Books) (s_a s_e : Gateway) (net out : List Lette
 
 module _ (owners : List ℕ) (k a e : ℕ) (la : a < k) (le' : e < k) (ne : a ≡ e → ⊥) where
   -- an event whose gate and letter are there
-  happens-is : (ev : Event) (g : ℕ) (b : Books) (s : Gateway) (net : List Letter) → gate_of ev ≡ g → g < length b.gates → b.net ≡ net → get_or b.gates g no_gate ≡ s → is_there ev net ≡ true →
-      happens owners ev b ≡ entered g (after_of owners ev (letter_in ev net) s) (outcome_of owners ev (letter_in ev net) s) b
-  happens-is ev g b s net is less n at here =
-      cond-true
-      (ltb (gate_of ev) (length b.gates) && is_there ev b.net)
-      _
-      b
-      (and_from (ltb (gate_of ev) (length b.gates)) (is_there ev b.net) (ap (λ z. ltb z (length b.gates)) is ∙ lt-ltb g (length b.gates) less) (ap (is_there ev) n ∙ here)) ∙
-      (λ j. entered (is j) (after_of owners ev (letter_in ev (n j)) (read j)) (outcome_of owners ev (letter_in ev (n j)) (read j)) b)
-    where
-      read : get_or b.gates (gate_of ev) no_gate ≡ s
-      read = ap (λ z. get_or b.gates z no_gate) is ∙ at
+  happens-is : (ev : EventKind) (g : ℕ) (b : Books) (s s' : Gateway) (net : List Letter) (o : Outcome) → g < length b.gates → b.net ≡ net → get_or b.gates g no_gate ≡ s → after_of owners net ev s ≡ s' →
+      outcome_of owners net ev s ≡ Some o → happens owners (at_gate g ev) b ≡ entered g s' o b
+  happens-is ev g b s s' net o less n at after adds =
+      cond-true (ltb g (length b.gates)) _ b (lt-ltb g (length b.gates) less) ∙
+      ap₂ (λ u v. entered_if g u v b) (ap₂ (λ x y. after_of owners x ev y) n at ∙ after) (ap₂ (λ x y. outcome_of owners x ev y) n at ∙ adds)
 
   -- the event happens at gate a
-  stage_a : (ev : Event) (b : Books) (s_a s_e s : Gateway) (net out : List Letter) (o : Outcome) → gate_of ev ≡ a → is_there ev net ≡ true → after_of owners ev (letter_in ev net) s_a ≡ s → outcome_of owners ev (letter_in ev net) s_a ≡ o →
-      Stage k a e b s_a s_e net out → Stage k a e (happens owners ev b) s s_e (net ++ list_of o.sent) (out ++ list_of o.out)
-  stage_a ev b s_a s_e s net out o is here after adds h =
+  stage_a : (ev : EventKind) (b : Books) (s_a s_e s : Gateway) (net out : List Letter) (o : Outcome) → after_of owners net ev s_a ≡ s → outcome_of owners net ev s_a ≡ Some o →
+      Stage k a e b s_a s_e net out → Stage k a e (happens owners (at_gate a ev) b) s s_e (net ++ list_of o.sent) (out ++ list_of o.out)
+  stage_a ev b s_a s_e s net out o after adds h =
       subst
       (λ z. Stage k a e z s s_e (net ++ list_of o.sent) (out ++ list_of o.out))
-      (sym (happens-is ev a b s_a net is (let q = h.long in omega arith) h.net_so h.at_a here ∙ ap₂ (λ u v. entered a u v b) after adds))
+      (sym (happens-is ev a b s_a s net o (let q = h.long in omega arith) h.net_so h.at_a after adds))
       (record {
         long = length-set b.gates a s ∙ h.long;
         at_a = get_or-set_same b.gates a s no_gate (let q = h.long in omega arith);
@@ -226,12 +220,12 @@ module _ (owners : List ℕ) (k a e : ℕ) (la : a < k) (le' : e < k) (ne : a �
       })
 
   -- the event happens at gate e
-  stage_e : (ev : Event) (b : Books) (s_a s_e s : Gateway) (net out : List Letter) (o : Outcome) → gate_of ev ≡ e → is_there ev net ≡ true → after_of owners ev (letter_in ev net) s_e ≡ s → outcome_of owners ev (letter_in ev net) s_e ≡ o →
-      Stage k a e b s_a s_e net out → Stage k a e (happens owners ev b) s_a s (net ++ list_of o.sent) (out ++ list_of o.out)
-  stage_e ev b s_a s_e s net out o is here after adds h =
+  stage_e : (ev : EventKind) (b : Books) (s_a s_e s : Gateway) (net out : List Letter) (o : Outcome) → after_of owners net ev s_e ≡ s → outcome_of owners net ev s_e ≡ Some o →
+      Stage k a e b s_a s_e net out → Stage k a e (happens owners (at_gate e ev) b) s_a s (net ++ list_of o.sent) (out ++ list_of o.out)
+  stage_e ev b s_a s_e s net out o after adds h =
       subst
       (λ z. Stage k a e z s_a s (net ++ list_of o.sent) (out ++ list_of o.out))
-      (sym (happens-is ev e b s_e net is (let q = h.long in omega arith) h.net_so h.at_e here ∙ ap₂ (λ u v. entered e u v b) after adds))
+      (sym (happens-is ev e b s_e s net o (let q = h.long in omega arith) h.net_so h.at_e after adds))
       (record {
         long = length-set b.gates e s ∙ h.long;
         at_a = get_or-set_other b.gates e a s no_gate ne ∙ h.at_a;
@@ -240,11 +234,12 @@ module _ (owners : List ℕ) (k a e : ℕ) (la : a < k) (le' : e < k) (ne : a �
         out_so = ap (λ z. z ++ list_of o.out) h.out_so;
       })
 
-last_there : (xs : List Letter) (x : Letter) (n : ℕ) → length xs ≡ n → ltb n (length (xs ++ (x ∷ []))) ≡ true
-last_there xs x n l = lt-ltb n (length (xs ++ (x ∷ []))) (let q = length-append xs (x ∷ []) in omega arith)
+-- the letter that was made last
+last_there : (xs : List Letter) (x : Letter) (n : ℕ) → length xs ≡ n → slice_get (xs ++ (x ∷ [])) n ≡ Some x
+last_there xs x n l = slice_get-get_or (xs ++ (x ∷ [])) n x (let q = length-append xs (x ∷ []) in omega arith) ∙ ap Some (get_or_push xs x x n l)
 
 pub can_open : CanOpen
-unfolding plays
+unfolding CanOpen plays
 can_open owners k life most es b a e t y p few some fits h la le' ne from to clock nt ny = final.out_so ∙ ap (λ z. b.out ++ (z ∷ [])) packet-is
   where
     s_a : Gateway
@@ -301,16 +296,16 @@ can_open owners k life most es b a e t y p few some fits h la le' ne from to clo
     N' = (ticked s_a).now
 
     hello : Letter
-    hello = record { word = Hello s_a.own s_e.own t N'; parcel = nobody }
+    hello = record { word = Hello s_a.own s_e.own t N'; parcel = None }
 
     reply : Letter
-    reply = record { word = Reply s_e.own s_a.own y t; parcel = nobody }
+    reply = record { word = Reply s_e.own s_a.own y t; parcel = None }
 
     packet : Letter
-    packet = record { word = Packet s_a.own s_e.own t y 1 s_a.own s_e.own; parcel = p }
+    packet = record { word = Packet s_a.own s_e.own t y 1 s_a.own s_e.own; parcel = Some p }
 
-    packet-is : packet ≡ record { word = Packet a e t y 1 a e; parcel = p }
-    packet-is j = record { word = Packet (is_a j) (is_e j) t y 1 (is_a j) (is_e j); parcel = p }
+    packet-is : packet ≡ record { word = Packet a e t y 1 a e; parcel = Some p }
+    packet-is j = record { word = Packet (is_a j) (is_e j) t y 1 (is_a j) (is_e j); parcel = Some p }
 
     net₂ : List Letter
     net₂ = b.net ++ (hello ∷ [])
@@ -334,19 +329,19 @@ can_open owners k life most es b a e t y p few some fits h la le' ne from to clo
     spoken c s u net out z = subst (λ w. Stage k a e c s u net w) (append-nil out) z
 
     b₁ : Books
-    b₁ = happens owners (Tick a) b
+    b₁ = happens owners (at_gate a Tick) b
 
     b₂ : Books
-    b₂ = happens owners (Greet a e t) b₁
+    b₂ = happens owners (at_gate a (Greet e t)) b₁
 
     b₃ : Books
-    b₃ = happens owners (Bring e n y) b₂
+    b₃ = happens owners (at_gate e (Bring n y)) b₂
 
     b₄ : Books
-    b₄ = happens owners (Bring a (n + 1) 0) b₃
+    b₄ = happens owners (at_gate a (Bring (n + 1) 0)) b₃
 
     b₅ : Books
-    b₅ = happens owners (Put a p) b₄
+    b₅ = happens owners (at_gate a (Put p)) b₄
 
     x₂ : Gateway
     x₂ = s₂ s_a s_e t y pe pa st_a.table st_e.table sp_e.six old st_a.fell_so clock late nt ny most'
@@ -358,36 +353,30 @@ can_open owners k life most es b a e t y p few some fits h la le' ne from to clo
     y₁ = e₁ s_a s_e t y pe pa st_a.table st_e.table sp_e.six old st_a.fell_so clock late nt ny most'
 
     st₁ : Stage k a e b₁ (ticked s_a) s_e b.net b.out
-    st₁ = quiet b₁ (ticked s_a) s_e b.net b.out (stage_a owners k a e la le' ne (Tick a) b s_a s_e (ticked s_a) b.net b.out silent refl refl refl refl (record { long = h.all; at_a = refl; at_e = refl; net_so = refl; out_so = refl }))
+    st₁ = quiet b₁ (ticked s_a) s_e b.net b.out (stage_a owners k a e la le' ne Tick b s_a s_e (ticked s_a) b.net b.out silent refl refl (record { long = h.all; at_a = refl; at_e = refl; net_so = refl; out_so = refl }))
 
     st₂ : Stage k a e b₂ x₂ s_e net₂ b.out
     st₂ =
         spoken b₂ x₂ s_e net₂ b.out
-        (stage_a owners k a e la le' ne (Greet a e t) b₁ (ticked s_a) s_e x₂ b.net b.out (record { sent = Some hello; put = None; out = None }) refl refl
+        (stage_a owners k a e la le' ne (Greet e t) b₁ (ticked s_a) s_e x₂ b.net b.out (record { sent = Some hello; put = None; out = None })
         (ap (λ z. greet_after z t (ticked s_a)) (sym is_e) ∙ greet-after s_a s_e t y pe pa st_a.table st_e.table sp_e.six old st_a.fell_so clock late nt ny most')
-        (ap (λ o. record { sent = letter_of nobody o; put = None; out = None }) (ap (λ z. greet z t (ticked s_a)) (sym is_e) ∙ greet-is s_a s_e t y pe pa st_a.table st_e.table sp_e.six old st_a.fell_so clock late nt ny most'))
+        (ap (λ o. Some (record { sent = letter_of None o; put = None; out = None })) (ap (λ z. greet z t (ticked s_a)) (sym is_e) ∙ greet-is s_a s_e t y pe pa st_a.table st_e.table sp_e.six old st_a.fell_so clock late nt ny most'))
         st₁)
-
-    letter₂ : get_or net₂ n no_letter ≡ hello
-    letter₂ = get_or_push b.net hello no_letter n refl
 
     st₃ : Stage k a e b₃ x₂ y₁ net₃ b.out
     st₃ =
         spoken b₃ x₂ y₁ net₃ b.out
-        (stage_e owners k a e la le' ne (Bring e n y) b₂ x₂ s_e y₁ net₂ b.out (record { sent = Some reply; put = None; out = None }) refl (last_there b.net hello n refl)
-        (ap (λ l. took_after (as_code (owner_in owners) (sealed_of l)) y s_e) letter₂ ∙ hello-after s_a s_e t y pe pa st_a.table st_e.table sp_e.six old st_a.fell_so clock late nt ny most')
-        (ap (λ l. brought_out l (took (as_code (owner_in owners) (sealed_of l)) y s_e)) letter₂ ∙ ap (brought_out hello) (hello-took s_a s_e t y pe pa st_a.table st_e.table sp_e.six old st_a.fell_so clock late nt ny most'))
+        (stage_e owners k a e la le' ne (Bring n y) b₂ x₂ s_e y₁ net₂ b.out (record { sent = Some reply; put = None; out = None })
+        (ap (after_letter owners y s_e) (last_there b.net hello n refl) ∙ hello-after s_a s_e t y pe pa st_a.table st_e.table sp_e.six old st_a.fell_so clock late nt ny most')
+        (ap (letter_adds owners y s_e) (last_there b.net hello n refl) ∙ ap (λ r. Some (brought_out hello r)) (hello-took s_a s_e t y pe pa st_a.table st_e.table sp_e.six old st_a.fell_so clock late nt ny most'))
         st₂)
-
-    letter₃ : get_or net₃ (n + 1) no_letter ≡ reply
-    letter₃ = get_or_push net₂ reply no_letter (n + 1) len₂
 
     st₄ : Stage k a e b₄ x₃ y₁ net₃ b.out
     st₄ =
         quiet b₄ x₃ y₁ net₃ b.out
-        (stage_a owners k a e la le' ne (Bring a (n + 1) 0) b₃ x₂ y₁ x₃ net₃ b.out silent refl (last_there net₂ reply (n + 1) len₂)
-        (ap (λ l. took_after (as_code (owner_in owners) (sealed_of l)) 0 x₂) letter₃ ∙ reply-after s_a s_e t y pe pa st_a.table st_e.table sp_e.six old st_a.fell_so clock late nt ny most')
-        (ap (λ l. brought_out l (took (as_code (owner_in owners) (sealed_of l)) 0 x₂)) letter₃ ∙ ap (brought_out reply) (reply-took s_a s_e t y pe pa st_a.table st_e.table sp_e.six old st_a.fell_so clock late nt ny most'))
+        (stage_a owners k a e la le' ne (Bring (n + 1) 0) b₃ x₂ y₁ x₃ net₃ b.out silent
+        (ap (after_letter owners 0 x₂) (last_there net₂ reply (n + 1) len₂) ∙ reply-after s_a s_e t y pe pa st_a.table st_e.table sp_e.six old st_a.fell_so clock late nt ny most')
+        (ap (letter_adds owners 0 x₂) (last_there net₂ reply (n + 1) len₂) ∙ ap (λ r. Some (brought_out reply r)) (reply-took s_a s_e t y pe pa st_a.table st_e.table sp_e.six old st_a.fell_so clock late nt ny most'))
         st₃)
 
     put_so : put (owner_in owners p.from) (owner_in owners p.to) x₃ ≡ Ok (Some packet.word)
@@ -396,18 +385,18 @@ can_open owners k life most es b a e t y p few some fits h la le' ne from to clo
     st₅ : Stage k a e b₅ (put_after (owner_in owners p.from) (owner_in owners p.to) x₃) y₁ net₅ b.out
     st₅ =
         spoken b₅ _ y₁ net₅ b.out
-        (stage_a owners k a e la le' ne (Put a p) b₄ x₃ y₁ (put_after (owner_in owners p.from) (owner_in owners p.to) x₃) net₃ b.out (record { sent = Some packet; put = Some packet; out = None }) refl refl refl
-        (ap (λ o. record { sent = letter_of p (gone_out o); put = letter_of p (gone_out o); out = None }) put_so)
+        (stage_a owners k a e la le' ne (Put p) b₄ x₃ y₁ (put_after (owner_in owners p.from) (owner_in owners p.to) x₃) net₃ b.out (record { sent = Some packet; put = Some packet; out = None }) refl
+        (ap (λ o. Some (record { sent = letter_of (Some p) (gone_out o); put = letter_of (Some p) (gone_out o); out = None })) put_so)
         st₄)
 
-    letter₅ : get_or net₅ (n + 2) no_letter ≡ packet
-    letter₅ = get_or_push net₃ packet no_letter (n + 2) len₃
+    letter₅ : slice_get net₅ (n + 2) ≡ Some packet
+    letter₅ = last_there net₃ packet (n + 2) len₃
 
     opened : as_code (owner_in owners) (sealed_of packet) ≡ packet.word
     opened = ap₂ (λ u v. Packet s_a.own s_e.own t y 1 u v) (from ∙ sym is_a) (to ∙ sym is_e)
 
-    final : Stage k a e (happens owners (Bring e (n + 2) 0) b₅) (put_after (owner_in owners p.from) (owner_in owners p.to) x₃) (took_after (as_code (owner_in owners) (sealed_of (get_or net₅ (n + 2) no_letter))) 0 y₁) (net₅ ++ []) (b.out ++ (packet ∷ []))
+    final : Stage k a e (happens owners (at_gate e (Bring (n + 2) 0)) b₅) (put_after (owner_in owners p.from) (owner_in owners p.to) x₃) (after_letter owners 0 y₁ (slice_get net₅ (n + 2))) (net₅ ++ []) (b.out ++ (packet ∷ []))
     final =
-        stage_e owners k a e la le' ne (Bring e (n + 2) 0) b₅ _ y₁ _ net₅ b.out (record { sent = None; put = None; out = Some packet }) refl (last_there net₃ packet (n + 2) len₃) refl
-        (ap (λ l. brought_out l (took (as_code (owner_in owners) (sealed_of l)) 0 y₁)) letter₅ ∙ ap (brought_out packet) (ap (λ w. took w 0 y₁) opened ∙ packet-took s_a s_e t y pe pa st_a.table st_e.table sp_e.six old st_a.fell_so clock late nt ny most'))
+        stage_e owners k a e la le' ne (Bring (n + 2) 0) b₅ _ y₁ _ net₅ b.out (record { sent = None; put = None; out = Some packet }) refl
+        (ap (letter_adds owners 0 y₁) letter₅ ∙ ap (λ r. Some (brought_out packet r)) (ap (λ w. took w 0 y₁) opened ∙ packet-took s_a s_e t y pe pa st_a.table st_e.table sp_e.six old st_a.fell_so clock late nt ny most'))
         st₅

@@ -1,7 +1,7 @@
 -- Many gates and a net: whatever happens is a run of the abstract protocol, and so the promise holds. Assumes nothing.
-use Rattle.std.proofs.Common.{◌≡◌, ℕ, zero, suc, ◌-◌, ◌^◌, ◌<◌, ◌≤◌, Bool, true, false, cond, not, ◌&&◌, ◌||◌, eqb, ltb, leb, ◌⊎◌, List, [], ◌∷◌, ◌++◌, length, get_or, set, Some, None, Ok, Err, Option, Result, sym, refl, ap, ◌∙◌, subst, ap₂, inl, inr, ⊎_elim, append_assoc, append-nil, le_of_suc-le-suc, arith, length-set, get_or-set_other, get_or-set_same}
+use Rattle.std.proofs.Common.{◌≡◌, ℕ, zero, suc, ◌-◌, ◌^◌, ◌<◌, ◌≤◌, Bool, true, false, cond, not, ◌&&◌, ◌||◌, eqb, ltb, leb, ◌⊎◌, List, [], ◌∷◌, ◌++◌, length, get_or, set, Some, None, Ok, Err, Option, Result, sym, refl, ap, ◌∙◌, subst, ap₂, inl, inr, ⊎_elim, slice_get, append_assoc, append-nil, le_of_suc-le-suc, arith, length-set, get_or-set_other, get_or-set_same}
 use mathlib.Core.List.Memᴰ
-use Rattle.std.proofs.lemmas.Bool.{cond-true, eqb-true, eqb-false, ne_eqb, and_parts, and_from, not-true, not_from_false, or_parts, or_from, ltb-true, ltb-false, lt-ltb, cases_eq}
+use Rattle.std.proofs.lemmas.Bool.{cond_both, cond-true, eqb-true, eqb-false, ne_eqb, and_parts, and_from, not-true, not_from_false, or_parts, or_from, ltb-true, ltb-false, lt-ltb, cases_eq}
 use Rattle.protocol.specs.declared.refusals.Refusal.{Refusal}
 use Rattle.gates.specs.Lists.{In, At}
 use Rattle.gates.specs.Talk.{Rules, is_in}
@@ -26,11 +26,12 @@ use Rattle.gateway.specs.Steps.{taken as answered-as}
 use Rattle.refinement.specs.declared.state.Parcel.{Parcel}
 use Rattle.refinement.specs.declared.state.Letter.{Letter}
 use Rattle.refinement.specs.declared.state.Event.{Event}
-use Rattle.refinement.specs.declared.state.Event.TheVariants.{Tick, Restart, Greet, Put, Bring}
+use Rattle.refinement.specs.declared.state.EventKind.{EventKind}
+use Rattle.refinement.specs.declared.state.EventKind.TheVariants.{Tick, Restart, Greet, Put, Bring}
 use Rattle.refinement.specs.declared.state.Outcome.{Outcome}
 use Rattle.refinement.specs.Relation.{rules_of, Stands}
 use Rattle.refinement.specs.Calls.{Call, Ticks, Says, Sends, Falls, offers, as_code, drawn_of, hearing, does, doing, gone_out, sent_as, put_as, drawn_as, nothing, sent_for, out_for, drew_for, drops_oldest, drops_for}
-use Rattle.refinement.specs.Sea.{owner_in, inner_of, nobody, sealed_of, Books, letter_of, silent, brought_out, list_of, no_gate, entered, no_letter, gate_of, letter_in, is_there, after_of, outcome_of, happens, plays, tag_of, tags_of, backwards, words_of, puts_of, outs_of, Reached, Kept, Plays}
+use Rattle.refinement.specs.Sea.{owner_in, inner_of, inner_in, sealed_of, Books, letter_of, silent, brought_out, list_of, no_gate, entered, letter_adds, after_letter, entered_if, happens, plays, tag_of, tags_of, backwards, words_of, puts_of, outs_of, Reached, Kept, Plays}
 use Rattle.refinement.proofs.Asked.{ticks_so, falls_so, says_so, sends_so}
 use Rattle.refinement.proofs.Taking.{owned_ok, talk_tests, hello-none}
 use Rattle.refinement.proofs.Followed.{hears_so}
@@ -135,31 +136,26 @@ module _ (k life most : ℕ) (few : k ≤ 32) (fits : most < 2 ^ 32) (owners : L
   stayed : (b : Books) (es : List Ev) (ts rest : List ℕ) → Reached k life most (owner_in owners) b es → AllNew (ts ++ rest) (world r es) → Went b es rest
   stayed b es ts rest h n = record { later = []; reached = h; new = skip_new ts rest (world r es) n }
 
-  -- what a gate does that is there: its events, what they do, and that the outcome is just that
-  abbrev Act : Event → Books → List Ev → Type 0
-  Act e b es =
-      (vs : List Ev) × (d : Did Gateway) × AllOfGate k (gate_of e) vs × Follows (Stands k life most (gate_of e)) (gate_of e) (world r es) (world r (vs ++ es)) d ×
-      Matches d (after_of owners e (letter_in e b.net) (get_or b.gates (gate_of e) no_gate)) (outcome_of owners e (letter_in e b.net) (get_or b.gates (gate_of e) no_gate)) × Drew d.drew (tag_of e)
+  -- what gate g does that is there, with memory s' after it and outcome o, the tags offered being ts: its events, what they do, and that the outcome is just that
+  abbrev Act : (g : ℕ) → Gateway → Outcome → (ts : List ℕ) → List Ev → Type 0
+  Act g s' o ts es =
+      (vs : List Ev) × (d : Did Gateway) × AllOfGate k g vs × Follows (Stands k life most g) g (world r es) (world r (vs ++ es)) d × Matches d s' o × Drew d.drew ts
 
-  -- the event happens, or nothing does
-  there : (e : Event) (b : Books) (es : List Ev) (rest : List ℕ) → Reached k life most (owner_in owners) b es → AllNew (tag_of e ++ rest) (world r es) →
-      (gate_of e < k → is_there e b.net ≡ true → Stands k life most (gate_of e) (get_or b.gates (gate_of e) no_gate) ((world r es).now (gate_of e)) ((world r es).gates (gate_of e)) → Act e b es) →
-      Went (happens owners e b) es rest
-  there e b es rest h n does' = go (ltb (gate_of e) (length b.gates) && is_there e b.net) refl
+  -- the gate is there and does it, or nothing happens
+  there : (g : ℕ) (s' : Gateway) (o : Outcome) (ts : List ℕ) (b : Books) (es : List Ev) (rest : List ℕ) → Reached k life most (owner_in owners) b es → AllNew (ts ++ rest) (world r es) →
+      (g < k → Stands k life most g (get_or b.gates g no_gate) ((world r es).now g) ((world r es).gates g) → Act g s' o ts es) →
+      Went (cond (ltb g (length b.gates)) (entered g s' o b) b) es rest
+  there g s' o ts b es rest h n does' = go (ltb g (length b.gates)) refl
     where
-      s : Gateway
-      s = get_or b.gates (gate_of e) no_gate
-
-      go : (c : Bool) → (ltb (gate_of e) (length b.gates) && is_there e b.net) ≡ c → Went (cond c (entered (gate_of e) (after_of owners e (letter_in e b.net) s) (outcome_of owners e (letter_in e b.net) s) b) b) es rest
-      go false c = stayed b es (tag_of e) rest h n
+      go : (c : Bool) → ltb g (length b.gates) ≡ c → Went (cond c (entered g s' o b) b) es rest
+      go false c = stayed b es ts rest h n
       go true c =
-          let p = and_parts (ltb (gate_of e) (length b.gates)) (is_there e b.net) c in
-          let less : gate_of e < k = let l = ltb-true (gate_of e) (length b.gates) p.0 in let q = h.all in omega arith in
-          let z = does' less p.1 (h.stands (gate_of e) less) in
+          let less : g < k = let l = ltb-true g (length b.gates) c in let q = h.all in omega arith in
+          let z = does' less (h.stands g less) in
           record {
             later = z.0;
-            reached = acts b es z.0 (gate_of e) (after_of owners e (letter_in e b.net) s) (outcome_of owners e (letter_in e b.net) s) z.1 h less z.2 z.3 z.4;
-            new = rest-new z.1.drew (tag_of e) rest (world r es) (world r (z.0 ++ es)) z.3.drawn_so z.5 n;
+            reached = acts b es z.0 g s' o z.1 h less z.2 z.3 z.4;
+            new = rest-new z.1.drew ts rest (world r es) (world r (z.0 ++ es)) z.3.drawn_so z.5 n;
           }
 
   own-cond : (g : ℕ) (c : Bool) (vs : List Ev) → (c ≡ true → AllOfGate k g vs) → AllOfGate k g (cond c vs [])
@@ -195,12 +191,12 @@ module _ (k life most : ℕ) (few : k ≤ 32) (fits : most < 2 ^ 32) (owners : L
       let p = (and_parts (is_peer e s) (not (eqb t 0) && (ltb s.fell s.now && not (is_greeted s.now (peer_at e s)))) h).0 in
       subst (λ z. e < z) is (ltb-true e s.gates (and_parts (ltb e s.gates) (ltb e 32 && not (eqb e s.own)) p).0)
 
-  sent_matches : (p : Parcel) (o : Option Word) → sent_as (inner_of p) o ≡ words_of (list_of (letter_of p o))
+  sent_matches : (p : Option Parcel) (o : Option Word) → sent_as (inner_in p) o ≡ words_of (list_of (letter_of p o))
   unfolding backwards
   sent_matches p None = refl
   sent_matches p (Some w) = refl
 
-  put_matches : (p : Parcel) (o : Option Word) → put_as (inner_of p) o ≡ puts_of (list_of (letter_of p o))
+  put_matches : (p : Option Parcel) (o : Option Word) → put_as (inner_in p) o ≡ puts_of (list_of (letter_of p o))
   unfolding backwards
   put_matches p None = refl
   put_matches p (Some w) = refl
@@ -209,13 +205,13 @@ module _ (k life most : ℕ) (few : k ≤ 32) (fits : most < 2 ^ 32) (owners : L
   unfolding backwards
   quiet_matches s = record { after_so = refl; sent_so = refl; put_so = refl; out_so = refl }
 
-  said : (o : Option Word) (s : Gateway) (t : ℕ) → Matches (record { after = s; sent = sent_as nothing o; put = []; out = []; drew = drawn_as t o }) s (record { sent = letter_of nobody o; put = None; out = None })
+  said : (o : Option Word) (s : Gateway) (t : ℕ) → Matches (record { after = s; sent = sent_as nothing o; put = []; out = []; drew = drawn_as t o }) s (record { sent = letter_of None o; put = None; out = None })
   unfolding backwards
-  said o s t = record { after_so = refl; sent_so = sent_matches nobody o; put_so = refl; out_so = refl }
+  said o s t = record { after_so = refl; sent_so = sent_matches None o; put_so = refl; out_so = refl }
 
-  putted : (p : Parcel) (o : Option Word) (s : Gateway) → Matches (record { after = s; sent = sent_as (inner_of p) o; put = put_as (inner_of p) o; out = []; drew = [] }) s (record { sent = letter_of p o; put = letter_of p o; out = None })
+  putted : (p : Parcel) (o : Option Word) (s : Gateway) → Matches (record { after = s; sent = sent_as (inner_of p) o; put = put_as (inner_of p) o; out = []; drew = [] }) s (record { sent = letter_of (Some p) o; put = letter_of (Some p) o; out = None })
   unfolding backwards
-  putted p o s = record { after_so = refl; sent_so = sent_matches p o; put_so = put_matches p o; out_so = refl }
+  putted p o s = record { after_so = refl; sent_so = sent_matches (Some p) o; put_so = put_matches (Some p) o; out_so = refl }
 
   greet-drew : (t : ℕ) (o : Option Word) → Drew (drawn_as t o) (t ∷ [])
   greet-drew t None = inl refl
@@ -305,19 +301,11 @@ module _ (k life most : ℕ) (few : k ≤ 32) (fits : most < 2 ^ 32) (owners : L
   front-new true t rest w n = (n.0, refl, tt)
   front-new false t rest w n = tt
 
-  -- the letter at a place of the net is in it
-  in-get_or : (ls : List Letter) (i : ℕ) → i < length ls → In (get_or ls i no_letter) ls
-  in-get_or [] i l = absurd (none i l)
-    where
-      none : (n : ℕ) → suc n ≤ 0 → ⊥
-      none n h = omega arith
-  in-get_or (x ∷ xs) zero l = Memᴰ.head refl
-  in-get_or (x ∷ xs) (suc i) l = Memᴰ.tail (in-get_or xs i (le_of_suc-le-suc l))
-
   -- a letter of the net is brought
-  brought : (b : Books) (es : List Ev) (rest : List ℕ) (g i t : ℕ) → Reached k life most (owner_in owners) b es → AllNew (tag_of (Bring g i t) ++ rest) (world r es) →
-      g < k → is_there (Bring g i t) b.net ≡ true → Stands k life most g (get_or b.gates g no_gate) ((world r es).now g) ((world r es).gates g) → Act (Bring g i t) b es
-  brought b es rest g i t h n less here st = (
+  brought : (b : Books) (es : List Ev) (rest : List ℕ) (g t : ℕ) (l : Letter) → Reached k life most (owner_in owners) b es → AllNew (tag_of (Bring 0 t) ++ rest) (world r es) → In l b.net →
+      g < k → Stands k life most g (get_or b.gates g no_gate) ((world r es).now g) ((world r es).gates g) →
+      Act g (took_after (as_code (owner_in owners) (sealed_of l)) t (get_or b.gates g no_gate)) (brought_out l (took (as_code (owner_in owners) (sealed_of l)) t (get_or b.gates g no_gate))) (tag_of (Bring 0 t)) es
+  brought b es rest g t l h n there' less st = (
     hearing (owner_in owners) g x ts s at.0,
     did t,
     own_more g (Brings g at.0 (drawn_of ts)) (drops_for g (peer_at (by_of x) s) (took (as_code (owner_in owners) x) (drawn_of ts) s)) refl (hearing_own g (peer_at (by_of x) s) (took (as_code (owner_in owners) x) (drawn_of ts) s)),
@@ -329,9 +317,6 @@ module _ (k life most : ℕ) (few : k ≤ 32) (fits : most < 2 ^ 32) (owners : L
     brought-drew t ts (took (as_code (owner_in owners) x) t s) (λ w e. cond-true (ltb 0 t) (t ∷ []) [] (lt-ltb 0 t (reply-tag x t s w e))),
   )
     where
-      l : Letter
-      l = get_or b.net i no_letter
-
       x : Sealed
       x = sealed_of l
 
@@ -342,7 +327,7 @@ module _ (k life most : ℕ) (few : k ≤ 32) (fits : most < 2 ^ 32) (owners : L
       s = get_or b.gates g no_gate
 
       at : (j : ℕ) × At j x (words_of b.net)
-      at = in-at x (words_of b.net) (letter_in_lem l b.net (in-get_or b.net i (ltb-true i (length b.net) here)))
+      at = in-at x (words_of b.net) (letter_in_lem l b.net there')
 
       did : ℕ → Did Gateway
       did u =
@@ -354,40 +339,68 @@ module _ (k life most : ℕ) (few : k ≤ 32) (fits : most < 2 ^ 32) (owners : L
             drew = drew_for u (took (as_code (owner_in owners) x) u s);
           }
 
+  -- the letter at a place of the net is in it
+  in-place : (ls : List Letter) (i : ℕ) (l : Letter) → slice_get ls i ≡ Some l → In l ls
+  in-place [] i l e = absurd (let z : ◌≡◌ {A = ℕ} 0 1 = cc in omega arith)
+  in-place (x ∷ xs) zero l e = Memᴰ.head (cc)
+  in-place (x ∷ xs) (suc i) l e = Memᴰ.tail (in-place xs i l e)
+
+  -- a letter is brought, if it is there
+  brings : (b : Books) (es : List Ev) (rest : List ℕ) (g i t : ℕ) → Reached k life most (owner_in owners) b es → AllNew (tag_of (Bring i t) ++ rest) (world r es) →
+      Went (happens owners (record { gate = g; kind = Bring i t }) b) es rest
+  brings b es rest g i t h n = go (slice_get b.net i) refl
+    where
+      s : Gateway
+      s = get_or b.gates g no_gate
+
+      go : (o : Option Letter) → slice_get b.net i ≡ o → Went (cond (ltb g (length b.gates)) (entered_if g (after_letter owners t s o) (letter_adds owners t s o) b) b) es rest
+      go None e = cond_both (ltb g (length b.gates)) b b (λ z. Went z es rest) (λ _. stayed b es (tag_of (Bring i t)) rest h n) (λ _. stayed b es (tag_of (Bring i t)) rest h n)
+      go (Some l) e = there g _ _ (tag_of (Bring i t)) b es rest h n (brought b es rest g t l h n (in-place b.net i l e))
+
   -- whatever happens
-  went : (e : Event) (b : Books) (es : List Ev) (rest : List ℕ) → Reached k life most (owner_in owners) b es → AllNew (tag_of e ++ rest) (world r es) → Went (happens owners e b) es rest
-  went (Tick g) b es rest h n =
+  went : (g : ℕ) (e : EventKind) (b : Books) (es : List Ev) (rest : List ℕ) → Reached k life most (owner_in owners) b es → AllNew (tag_of e ++ rest) (world r es) →
+      Went (happens owners (record { gate = g; kind = e }) b) es rest
+  went g Tick b es rest h n =
+      let s = get_or b.gates g no_gate in
       there
-      (Tick g)
+      g
+      (ticked s)
+      silent
+      []
       b
       es
       rest
       h
       n
-      (λ less here st.
-      let s = get_or b.gates g no_gate in
+      (λ less st.
       (doing g Ticks s, does (owner_in owners) g Ticks s, own-cond g (ltb s.now (2 ^ 64 - 1)) (worlds.Tick g ∷ []) (λ e. own-one g (worlds.Tick g) refl), ticks_so k life most fits (owner_in owners) es g s st, quiet_matches (ticked s), inl refl))
-  went (Restart g) b es rest h n =
-      there
-      (Restart g)
-      b
-      es
-      rest
-      h
-      n
-      (λ less here st.
+  went g Restart b es rest h n =
       let s = get_or b.gates g no_gate in
-      (doing g Falls s, does (owner_in owners) g Falls s, own-one g (worlds.Restarts g) refl, falls_so k life most fits (owner_in owners) es g s st, quiet_matches (restarted s), inl refl))
-  went (Greet g e t) b es rest h n =
       there
-      (Greet g e t)
+      g
+      (restarted s)
+      silent
+      []
       b
       es
       rest
       h
       n
-      (λ less here st.
-      let s = get_or b.gates g no_gate in (
+      (λ less st.
+      (doing g Falls s, does (owner_in owners) g Falls s, own-one g (worlds.Restarts g) refl, falls_so k life most fits (owner_in owners) es g s st, quiet_matches (restarted s), inl refl))
+  went g (Greet e t) b es rest h n =
+      let s = get_or b.gates g no_gate in
+      there
+      g
+      (greet_after e t s)
+      (record { sent = letter_of None (greet e t s); put = None; out = None })
+      (t ∷ [])
+      b
+      es
+      rest
+      h
+      n
+      (λ less st. (
         doing g (Says e t) s,
         does (owner_in owners) g (Says e t) s,
         own-cond g (may_greet e t s) (worlds.Greets g e t ∷ []) (λ m. own-one g (worlds.Greets g e t) (refl, greeted-below e t s st.gates_so m)),
@@ -395,31 +408,35 @@ module _ (k life most : ℕ) (few : k ≤ 32) (fits : most < 2 ^ 32) (owners : L
         said (greet e t s) (greet_after e t s) t,
         greet-drew t (greet e t s),
       ))
-  went (Put g p) b es rest h n =
+  went g (Put p) b es rest h n =
+      let s = get_or b.gates g no_gate in
+      let w = gone_out (put (owner_in owners p.from) (owner_in owners p.to) s) in
       there
-      (Put g p)
+      g
+      (put_after (owner_in owners p.from) (owner_in owners p.to) s)
+      (record { sent = letter_of (Some p) w; put = letter_of (Some p) w; out = None })
+      []
       b
       es
       rest
       h
       n
-      (λ less here st.
-      let s = get_or b.gates g no_gate in (
+      (λ less st. (
         doing g (Sends (inner_of p)) s,
         does (owner_in owners) g (Sends (inner_of p)) s,
         own-one g (Puts g (inner_of p)) refl,
         sends_so k life most fits (owner_in owners) es g (inner_of p) s st,
-        putted p (gone_out (put (owner_in owners p.from) (owner_in owners p.to) s)) (put_after (owner_in owners p.from) (owner_in owners p.to) s),
+        putted p w (put_after (owner_in owners p.from) (owner_in owners p.to) s),
         inl refl,
       ))
-  went (Bring g i t) b es rest h n = there (Bring g i t) b es rest h n (brought b es rest g i t h n)
+  went g (Bring i t) b es rest h n = brings b es rest g i t h n
 
   all_went : (events : List Event) (b : Books) (es : List Ev) → Reached k life most (owner_in owners) b es → AllNew (tags_of events) (world r es) →
       (later : List Ev) × Reached k life most (owner_in owners) (plays owners events b) (later ++ es)
   unfolding plays tags_of
   all_went [] b es h n = ([], h)
   all_went (e ∷ events) b es h n =
-      let first = went e b es (tags_of events) h n in
+      let first = went e.gate e.kind b es (tags_of events) h n in
       let rest = all_went events (happens owners e b) (first.later ++ es) first.reached first.new in
       (rest.0 ++ first.later, subst (Reached k life most (owner_in owners) (plays owners events (happens owners e b))) (sym (append_assoc rest.0 first.later es)) rest.1)
 
@@ -438,6 +455,7 @@ module _ (k life most : ℕ) (few : k ≤ 32) (fits : most < 2 ^ 32) (owners : L
       }
 
 pub all-plays : (owners : List ℕ) (events : List Event) (b : Books) → Plays owners events b (plays owners events b)
+unfolding Plays
 all-plays owners events b k life most es few fits h n =
     let z = all_went k life most few fits owners events b es h n in
     (z.0, z.1, main (rules_of life most (owner_in owners)) (z.0 ++ es), kept k life most few fits owners (plays owners events b) (z.0 ++ es) z.1)

@@ -1,5 +1,6 @@
 -- Many gates that run the code, and a net that keeps every word and brings any of them to anybody; and what is promised of them. Assumes nothing.
-use Rattle.std.specs.Prelude.{◌≡◌, ℕ, ◌+◌, ◌-◌, ◌^◌, ◌<◌, ◌≤◌, Bool, true, false, cond, ◌&&◌, List, [], ◌∷◌, ◌++◌, length, get_or, Some, None, Ok, Err, vec_items, Option, Result, ◌≢◌, nat_lt, slice_index_or, slice_set}
+use Rattle.std.specs.Prelude.{◌≡◌, ℕ, ◌+◌, ◌-◌, ◌^◌, ◌<◌, ◌≤◌, Bool, true, false, cond, List, [], ◌∷◌, ◌++◌, map, length, get_or, Some, None, Ok, Err, vec_items, Option, Result, ◌≢◌, nat_lt, option_map, slice_get, slice_index_or, slice_set}
+use Rattle.std.specs.List.{range_with_len}
 use Rattle.protocol.specs.declared.refusals.Refusal.{Refusal}
 use Rattle.gates.specs.Lists.{In, At}
 use Rattle.gates.specs.Talk.{Inner}
@@ -10,18 +11,19 @@ use Rattle.gates.specs.Promise.{Whole, GreetsBelow, lied, mirror, note_of, for_o
 use Rattle.gates.specs.Code.{AllNew}
 use Rattle.gateway.specs.declared.state.Gateway.{Gateway}
 use Rattle.gateway.specs.declared.state.Word.{Word}
-use Rattle.gateway.specs.declared.state.Word.TheVariants.{Hello, Packet}
+use Rattle.gateway.specs.declared.state.Word.TheVariants.{Packet}
 use Rattle.gateway.specs.declared.state.Taken.{Taken}
 use Rattle.gateway.specs.declared.state.Taken.TheVariants.{Answer, Sure, Out, Alive}
 use Rattle.gateway.specs.Steps.{fresh, took, took_after, put, put_after, greet, greet_after, ticked, restarted}
 use Rattle.refinement.specs.declared.state.Parcel.{Parcel}
 use Rattle.refinement.specs.declared.state.Letter.{Letter}
 use Rattle.refinement.specs.declared.state.Event.{Event}
-use Rattle.refinement.specs.declared.state.Event.TheVariants.{Tick, Restart, Greet, Put, Bring}
+use Rattle.refinement.specs.declared.state.EventKind.{EventKind}
+use Rattle.refinement.specs.declared.state.EventKind.TheVariants.{Tick, Restart, Greet, Put, Bring}
 use Rattle.refinement.specs.declared.state.Outcome.{Outcome}
 use Rattle.refinement.specs.declared.state.Sea.{Sea}
 use Rattle.refinement.specs.Relation.{rules_of, Stands}
-use Rattle.refinement.specs.Calls.{as_code, as_word, gone_out, put_as}
+use Rattle.refinement.specs.Calls.{as_code, as_word, nothing, gone_out, put_as}
 
 -- Who owns an address: a table by address; what it lacks is nobody's.
 abbrev pub owner_in : List ℕ → ℕ → ℕ
@@ -30,13 +32,14 @@ owner_in owners x = slice_index_or owners x 255
 abbrev pub inner_of : Parcel → Inner
 inner_of p = record { from = p.from; to = p.to; what = p.what ∷ [] }
 
--- no packet
-abbrev pub nobody : Parcel
-nobody = record { from = 0; to = 0; what = 0 }
+-- the packet in a letter, if it carries one
+abbrev pub inner_in : Option Parcel → Inner
+inner_in None = nothing
+inner_in (Some p) = inner_of p
 
 -- A letter as a word of the abstract protocol.
 abbrev pub sealed_of : Letter → Sealed
-sealed_of l = as_word (inner_of l.parcel) l.word
+sealed_of l = as_word (inner_in l.parcel) l.word
 
 -- The gates' memories, all words ever made, and all that was put in and came out, the earliest first.
 pub record Books : Type 0 where
@@ -45,16 +48,16 @@ pub record Books : Type 0 where
   pub put : List Letter
   pub out : List Letter
 
-abbrev pub letter_of : Parcel → Option Word → Option Letter
-letter_of p None = None
-letter_of p (Some w) = Some (record { word = w; parcel = p })
+-- the letter for a word that was made, with the packet that it carries, if it carries one
+abbrev pub letter_of : Option Parcel → Option Word → Option Letter
+letter_of p o = option_map (λ w. record { word = w; parcel = p }) o
 
 abbrev pub silent : Outcome
 silent = record { sent = None; put = None; out = None }
 
 -- what a word that is taken or refused adds
 abbrev pub brought_out : Letter → Result Taken Refusal → Outcome
-brought_out l (Ok (Answer w)) = record { sent = Some (record { word = w; parcel = nobody }); put = None; out = None }
+brought_out l (Ok (Answer w)) = record { sent = Some (record { word = w; parcel = None }); put = None; out = None }
 brought_out l (Ok Sure) = silent
 brought_out l (Ok Out) = record { sent = None; put = None; out = Some l }
 brought_out l (Ok Alive) = silent
@@ -64,7 +67,7 @@ abbrev pub list_of : Option Letter → List Letter
 list_of None = []
 list_of (Some l) = l ∷ []
 
--- what is read past the last gate or letter
+-- what is read past the last gate
 abbrev pub no_gate : Gateway
 no_gate = record { own = 0; gates = 0; life = 0; most = 0; now = 0; fell = 0; peers = [] }
 
@@ -73,62 +76,48 @@ abbrev pub entered : (g : ℕ) → Gateway → Outcome → Books → Books
 entered g s o b =
     record { gates = slice_set b.gates g s; net = b.net ++ list_of o.sent; put = b.put ++ list_of o.put; out = b.out ++ list_of o.out }
 
--- what is read past the last letter
-abbrev pub no_letter : Letter
-no_letter = record { word = Hello 0 0 0 0; parcel = nobody }
+-- gate g did this, if it did anything
+abbrev pub entered_if : (g : ℕ) → Gateway → Option Outcome → Books → Books
+entered_if g s None b = b
+entered_if g s (Some o) b = entered g s o b
 
--- The gate at which an event happens.
-abbrev pub gate_of : Event → ℕ
-gate_of (Tick g) = g
-gate_of (Restart g) = g
-gate_of (Greet g e t) = g
-gate_of (Put g p) = g
-gate_of (Bring g i t) = g
+-- A letter that is brought, if it is there: what it leaves in the gate's memory, and what it adds.
+abbrev pub after_letter : List ℕ → (tag : ℕ) → Gateway → Option Letter → Gateway
+after_letter owners t s None = s
+after_letter owners t s (Some l) = took_after (as_code (owner_in owners) (sealed_of l)) t s
 
--- The letter that an event brings.
-abbrev pub letter_in : Event → List Letter → Letter
-letter_in (Tick g) ls = no_letter
-letter_in (Restart g) ls = no_letter
-letter_in (Greet g e t) ls = no_letter
-letter_in (Put g p) ls = no_letter
-letter_in (Bring g i t) ls = slice_index_or ls i no_letter
+abbrev pub letter_adds : List ℕ → (tag : ℕ) → Gateway → Option Letter → Option Outcome
+letter_adds owners t s o = option_map (λ l. brought_out l (took (as_code (owner_in owners) (sealed_of l)) t s)) o
 
--- The event can happen: the letter that it brings is there.
-abbrev pub is_there : Event → List Letter → Bool
-is_there (Tick g) ls = true
-is_there (Restart g) ls = true
-is_there (Greet g e t) ls = true
-is_there (Put g p) ls = true
-is_there (Bring g i t) ls = nat_lt i (length ls)
+-- WHAT AN EVENT DOES to its gate, by the definitions that the gate's contracts cite. The letter that it brings is the one at its place of the net.
+abbrev pub after_of : List ℕ → List Letter → EventKind → Gateway → Gateway
+after_of owners net Tick s = ticked s
+after_of owners net Restart s = restarted s
+after_of owners net (Greet e t) s = greet_after e t s
+after_of owners net (Put p) s = put_after (owner_in owners p.from) (owner_in owners p.to) s
+after_of owners net (Bring i t) s = after_letter owners t s (slice_get net i)
 
--- WHAT AN EVENT DOES to its gate, by the definitions that the gate's contracts cite.
-abbrev pub after_of : List ℕ → Event → Letter → Gateway → Gateway
-after_of owners (Tick g) l s = ticked s
-after_of owners (Restart g) l s = restarted s
-after_of owners (Greet g e t) l s = greet_after e t s
-after_of owners (Put g p) l s = put_after (owner_in owners p.from) (owner_in owners p.to) s
-after_of owners (Bring g i t) l s = took_after (as_code (owner_in owners) (sealed_of l)) t s
-
--- WHAT IT ADDS.
-abbrev pub outcome_of : List ℕ → Event → Letter → Gateway → Outcome
-outcome_of owners (Tick g) l s = silent
-outcome_of owners (Restart g) l s = silent
-outcome_of owners (Greet g e t) l s = record { sent = letter_of nobody (greet e t s); put = None; out = None }
-outcome_of owners (Put g p) l s =
-    record {
-      sent = letter_of p (gone_out (put (owner_in owners p.from) (owner_in owners p.to) s));
-      put = letter_of p (gone_out (put (owner_in owners p.from) (owner_in owners p.to) s));
+-- WHAT IT ADDS; none where the letter that it brings is not there, and then nothing happens.
+abbrev pub outcome_of : List ℕ → List Letter → EventKind → Gateway → Option Outcome
+outcome_of owners net Tick s = Some silent
+outcome_of owners net Restart s = Some silent
+outcome_of owners net (Greet e t) s = Some (record { sent = letter_of None (greet e t s); put = None; out = None })
+outcome_of owners net (Put p) s =
+    Some (record {
+      sent = letter_of (Some p) (gone_out (put (owner_in owners p.from) (owner_in owners p.to) s));
+      put = letter_of (Some p) (gone_out (put (owner_in owners p.from) (owner_in owners p.to) s));
       out = None;
-    }
-outcome_of owners (Bring g i t) l s = brought_out l (took (as_code (owner_in owners) (sealed_of l)) t s)
+    })
+outcome_of owners net (Bring i t) s = letter_adds owners t s (slice_get net i)
+
+-- what an event of this kind does at gate g, whose memory is s
+abbrev pub happens_at : List ℕ → (g : ℕ) → EventKind → Gateway → Books → Books
+happens_at owners g e s b = entered_if g (after_of owners b.net e s) (outcome_of owners b.net e s) b
 
 -- The books after an event; where its gate or its letter is not there, nothing happens.
 abbrev pub happens : List ℕ → Event → Books → Books
 happens owners e b =
-    cond
-    (nat_lt (gate_of e) (length b.gates) && is_there e b.net)
-    (entered (gate_of e) (after_of owners e (letter_in e b.net) (slice_index_or b.gates (gate_of e) no_gate)) (outcome_of owners e (letter_in e b.net) (slice_index_or b.gates (gate_of e) no_gate)) b)
-    b
+    cond (nat_lt e.gate (length b.gates)) (happens_at owners e.gate e.kind (slice_index_or b.gates e.gate no_gate) b) b
 
 -- the lists in a sea's memory
 abbrev pub books_of : Sea → Books
@@ -140,16 +129,16 @@ plays owners [] b = b
 plays owners (e ∷ es) b = plays owners es (happens owners e b)
 
 -- the tags that events offer
-abbrev pub tag_of : Event → List ℕ
-tag_of (Tick g) = []
-tag_of (Restart g) = []
-tag_of (Greet g e t) = t ∷ []
-tag_of (Put g p) = []
-tag_of (Bring g i t) = cond (nat_lt 0 t) (t ∷ []) []
+abbrev pub tag_of : EventKind → List ℕ
+tag_of Tick = []
+tag_of Restart = []
+tag_of (Greet e t) = t ∷ []
+tag_of (Put p) = []
+tag_of (Bring i t) = cond (nat_lt 0 t) (t ∷ []) []
 
 unfoldable pub tags_of : List Event → List ℕ
 tags_of [] = []
-tags_of (e ∷ es) = tag_of e ++ tags_of es
+tags_of (e ∷ es) = tag_of e.kind ++ tags_of es
 
 -- what letters stand for, the latest first
 unfoldable pub backwards : {A : Type 0} → (Letter → List A) → List Letter → List A
@@ -161,7 +150,7 @@ abbrev pub words_of : List Letter → List Sealed
 words_of ls = backwards (λ l. sealed_of l ∷ []) ls
 
 abbrev pub puts_of : List Letter → List Note
-puts_of ls = backwards (λ l. put_as (inner_of l.parcel) (Some l.word)) ls
+puts_of ls = backwards (λ l. put_as (inner_in l.parcel) (Some l.word)) ls
 
 abbrev pub outs_of : List Letter → List Note
 outs_of ls = backwards (λ l. note_of (for_of (sealed_of l)) (sealed_of l)) ls
@@ -186,28 +175,32 @@ pub record Kept (owner : ℕ → ℕ) (b : Books) : Type 0 where
       In (worlds.note a e m h n x) (puts_of b.put) × (owner x.from ≡ a) × (owner x.to ≡ e)
 
 -- From books of a run, with tags that are new, any events lead to books of a run of which the promise holds, and with it all of the abstract protocol's.
-abbrev pub Plays : (owners : List ℕ) → List Event → Books → Books → Type 0
+unfoldable pub Plays : (owners : List ℕ) → List Event → Books → Books → Type 0
 Plays owners events b after =
     (k life most : ℕ) (es : List Ev) → k ≤ 32 → most < 2 ^ 32 → Reached k life most (owner_in owners) b es → AllNew (tags_of events) (world (rules_of life most (owner_in owners)) es) →
     (later : List Ev) × Reached k life most (owner_in owners) after (later ++ es) × Whole (rules_of life most (owner_in owners)) (later ++ es) × Kept (owner_in owners) after
 
 -- the first n of k gates, just made
-unfoldable pub new_gates : (k life most n : ℕ) → List Gateway
-new_gates k life most Prim.Native.Nat.zero = []
-new_gates k life most (Prim.Native.Nat.suc n) = new_gates k life most n ++ (fresh n k life most ∷ [])
+abbrev pub new_gates : (k life most n : ℕ) → List Gateway
+new_gates k life most n = map (λ a. fresh a k life most) (range_with_len 0 n)
 
 -- A sea that was just made is at the beginning of a run, whoever owns which address.
-abbrev pub Begun : (k life most : ℕ) → Books → Type 0
+unfoldable pub Begun : (k life most : ℕ) → Books → Type 0
 Begun k life most b = (owner : ℕ → ℕ) → Reached k life most owner b []
+
+-- an event of this kind at gate g
+abbrev pub at_gate : (g : ℕ) → EventKind → Event
+at_gate g e = record { gate = g; kind = e }
 
 -- Gate a, at a new tick, greets gate e under tag t; the hello is brought, and then its reply, for which e draws y; p is put in at a, and brought. n: how many words
 -- were made before.
 abbrev pub opening : (a e t y n : ℕ) → Parcel → List Event
-opening a e t y n p = Tick a ∷ Greet a e t ∷ Bring e n y ∷ Bring a (n + 1) 0 ∷ Put a p ∷ Bring e (n + 2) 0 ∷ []
+opening a e t y n p =
+    at_gate a Tick ∷ at_gate a (Greet e t) ∷ at_gate e (Bring n y) ∷ at_gate a (Bring (n + 1) 0) ∷ at_gate a (Put p) ∷ at_gate e (Bring (n + 2) 0) ∷ []
 
 -- IT ALWAYS CAN: from books of any run, whatever the net did before, that lets p out at e, once; each word that is brought is one that was made on the way.
-abbrev pub CanOpen : Type 0
+unfoldable pub CanOpen : Type 0
 CanOpen =
     (owners : List ℕ) (k life most : ℕ) (es : List Ev) (b : Books) (a e t y : ℕ) (p : Parcel) → k ≤ 32 → 0 < most → most < 2 ^ 32 → Reached k life most (owner_in owners) b es →
     a < k → e < k → (a ≢ e) → owner_in owners p.from ≡ a → owner_in owners p.to ≡ e → (get_or b.gates a no_gate).now < 2 ^ 64 - 1 → 0 < t → 0 < y →
-    (plays owners (opening a e t y (length b.net) p) b).out ≡ b.out ++ (record { word = Packet a e t y 1 a e; parcel = p } ∷ [])
+    (plays owners (opening a e t y (length b.net) p) b).out ≡ b.out ++ (record { word = Packet a e t y 1 a e; parcel = Some p } ∷ [])

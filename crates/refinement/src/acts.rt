@@ -1,12 +1,12 @@
 // What an event does to its gate, and what it adds to the books. Assumes nothing.
 ghost use Rattle.std.specs.Prelude.{◌≡◌};
-ghost use Rattle.refinement.specs.Calls.{as_code};
-ghost use Rattle.refinement.specs.Sea.{owner_in, sealed_of, letter_of, silent, brought_out, gate_of, after_of, outcome_of, no_letter};
-ghost use Rattle.gateway.specs.Steps.{took_after};
-ghost use Rattle.gateway.specs.Steps.{took as took_answer};
+ghost use Rattle.refinement.specs.Calls.{as_code, gone_out};
+ghost use Rattle.refinement.specs.Sea.{owner_in, sealed_of, letter_of, silent, brought_out, after_of, outcome_of};
+ghost use Rattle.gateway.specs.Steps.{took_after, put_after};
+ghost use Rattle.gateway.specs.Steps.{took as took_answer, put as put_answer};
 
 use crate::calls::{greet, put, restart, take, tick};
-use crate::state::{Event, Letter, Outcome, Parcel};
+use crate::state::{EventKind, Letter, Outcome, Parcel};
 use gateway::{Gateway, Taken, Word};
 
 /// What stands for the owner of an address that is nobody's.
@@ -16,48 +16,7 @@ const NOBODY: u8 = 255;
 fn owner_of(owners: &[u8], address: u32) -> u8
     ensures { result ≡ owner_in owners.now address }
 {
-    let at = address as usize;
-    if at < owners.len() {
-        owners[at]
-    } else {
-        NOBODY
-    }
-}
-
-impl Outcome {
-    /// Nothing is added.
-    pub(crate) fn silent() -> Outcome
-        ensures { result ≡ silent }
-    {
-        Outcome {
-            sent: None,
-            put: None,
-            out: None,
-        }
-    }
-}
-
-impl Event {
-    /// The gate at which it happens.
-    pub(crate) fn gate(self) -> u8
-        ensures { result ≡ gate_of self }
-    {
-        match self {
-            Event::Tick { gate } => gate,
-            Event::Restart { gate } => gate,
-            Event::Greet {
-                gate,
-                to: _,
-                tag: _,
-            } => gate,
-            Event::Put { gate, parcel: _ } => gate,
-            Event::Bring {
-                gate,
-                place: _,
-                tag: _,
-            } => gate,
-        }
-    }
+    owners.get(address as usize).copied().unwrap_or(NOBODY)
 }
 
 impl Letter {
@@ -72,19 +31,17 @@ impl Letter {
                 by_tag,
                 to_tag,
                 number,
-                source: _,
-                goal: _,
+                ..
             } => {
-                let source = owner_of(owners, self.parcel.from);
-                let goal = owner_of(owners, self.parcel.to);
+                let parcel = self.parcel.unwrap_or_default();
                 Word::Packet {
                     by,
                     to,
                     by_tag,
                     to_tag,
                     number,
-                    source,
-                    goal,
+                    source: owner_of(owners, parcel.from),
+                    goal: owner_of(owners, parcel.to),
                 }
             }
             other => other,
@@ -92,14 +49,22 @@ impl Letter {
     }
 }
 
-/// A letter for a word that carries this packet, if there is one.
-fn letter_of(parcel: Parcel, word: Option<Word>) -> Option<Letter>
+/// A letter for a word that was made, with the packet that it carries, if it carries one.
+fn letter_of(parcel: Option<Parcel>, word: Option<Word>) -> Option<Letter>
     ensures { result ≡ letter_of parcel word }
 {
-    let Some(word) = word else {
-        return None;
-    };
-    Some(Letter { word, parcel })
+    word.map(|word| Letter { word, parcel })
+}
+
+/// A packet is put in at a gate. Answers the letter that it goes out in.
+fn send(memory: &mut Gateway, owners: &[u8], parcel: Parcel) -> Option<Letter>
+    ensures after { memory.new ≡ put_after (owner_in owners.now parcel.from) (owner_in owners.now parcel.to) memory.old }
+    ensures sent { result ≡ letter_of (Some parcel) (gone_out (put_answer (owner_in owners.now parcel.from) (owner_in owners.now parcel.to) memory.old)) }
+{
+    let source = owner_of(owners, parcel.from);
+    let goal = owner_of(owners, parcel.to);
+    let word = put(memory, source, goal).ok().flatten();
+    letter_of(Some(parcel), word)
 }
 
 /// A letter is brought to a gate.
@@ -108,72 +73,50 @@ fn bring(memory: &mut Gateway, owners: &[u8], letter: Letter, tag: u64) -> Outco
     ensures adds { result ≡ brought_out letter (took_answer (as_code (owner_in owners.now) (sealed_of letter)) tag memory.old) }
 {
     match take(memory, letter.opened(owners), tag) {
-        Ok(Taken::Answer(word)) => {
-            let parcel = Parcel {
-                from: 0,
-                to: 0,
-                what: 0,
-            };
-            Outcome {
-                sent: Some(Letter { word, parcel }),
-                put: None,
-                out: None,
-            }
-        }
-        Ok(Taken::Out) => Outcome {
-            sent: None,
-            put: None,
-            out: Some(letter),
+        Ok(Taken::Answer(word)) => Outcome {
+            sent: letter_of(None, Some(word)),
+            ..Outcome::default()
         },
-        _ => Outcome::silent(),
+        Ok(Taken::Out) => Outcome {
+            out: Some(letter),
+            ..Outcome::default()
+        },
+        Ok(Taken::Sure | Taken::Alive) | Err(_) => Outcome::default(),
     }
 }
 
-/// An event happens to its gate, with the letter that it brings, if it brings one.
-pub(crate) fn act(memory: &mut Gateway, owners: &[u8], event: Event, letter: Letter) -> Outcome
-    ensures after { memory.new ≡ after_of owners.now event letter memory.old }
-    ensures adds { result ≡ outcome_of owners.now event letter memory.old }
+/// An event happens to its gate; nothing does where it brings a letter that the net does not have.
+pub(crate) fn act(memory: &mut Gateway, owners: &[u8], net: &[Letter], kind: EventKind) -> Option<Outcome>
+    ensures after { memory.new ≡ after_of owners.now net.now kind memory.old }
+    ensures adds { result ≡ outcome_of owners.now net.now kind memory.old }
 {
-    match event {
-        Event::Tick { gate: _ } => {
+    match kind {
+        EventKind::Tick => {
             tick(memory);
-            Outcome::silent()
+            Some(Outcome::default())
         }
-        Event::Restart { gate: _ } => {
+        EventKind::Restart => {
             restart(memory);
-            Outcome::silent()
+            Some(Outcome::default())
         }
-        Event::Greet { gate: _, to, tag } => {
-            let nobody = Parcel {
-                from: 0,
-                to: 0,
-                what: 0,
-            };
-            let word = greet(memory, to, tag);
-            Outcome {
-                sent: letter_of(nobody, word),
-                put: None,
+        EventKind::Greet { to, tag } => {
+            let sent = letter_of(None, greet(memory, to, tag));
+            Some(Outcome {
+                sent,
+                ..Outcome::default()
+            })
+        }
+        EventKind::Put(parcel) => {
+            let sent = send(memory, owners, parcel);
+            Some(Outcome {
+                sent,
+                put: sent,
                 out: None,
-            }
+            })
         }
-        Event::Put { gate: _, parcel } => {
-            let source = owner_of(owners, parcel.from);
-            let goal = owner_of(owners, parcel.to);
-            let word = match put(memory, source, goal) {
-                Ok(word) => word,
-                Err(_) => None,
-            };
-            let letter = letter_of(parcel, word);
-            Outcome {
-                sent: letter,
-                put: letter,
-                out: None,
-            }
+        EventKind::Bring { place, tag } => {
+            let letter = net.get(place).copied()?;
+            Some(bring(memory, owners, letter, tag))
         }
-        Event::Bring {
-            gate: _,
-            place: _,
-            tag,
-        } => bring(memory, owners, letter, tag),
     }
 }

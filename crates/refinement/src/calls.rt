@@ -19,6 +19,7 @@ pub fn start(own: u8, gates: u8, life: u16, most: u32) -> Gateway
 }
 
 /// A word is brought from outside, with a tag drawn for a reply, 0 where there is none. A refusal changes nothing.
+#[tactic(auto, using(crate::proofs::Followed::take_follows))]
 pub fn take(gate: &mut Gateway, word: Word, drawn: u64) -> Result<Taken, Refusal>
     ensures answer { result ≡ took word drawn gate.old }
     ensures after { gate.new ≡ took_after word drawn gate.old }
@@ -28,6 +29,7 @@ pub fn take(gate: &mut Gateway, word: Word, drawn: u64) -> Result<Taken, Refusal
 }
 
 /// A packet is put in, by the owners of its source and its destination. A refusal changes nothing.
+#[tactic(auto, using(crate::proofs::Followed::put_follows))]
 pub fn put(gate: &mut Gateway, source: u8, goal: u8) -> Result<Option<Word>, Refusal>
     ensures answer { result ≡ put_answer source goal gate.old }
     ensures after { gate.new ≡ put_after source goal gate.old }
@@ -37,6 +39,7 @@ pub fn put(gate: &mut Gateway, source: u8, goal: u8) -> Result<Option<Word>, Ref
 }
 
 /// Makes a hello to a gate under a drawn tag, if one can be made; else nothing is changed.
+#[tactic(auto, using(crate::proofs::Followed::greet_follows))]
 pub fn greet(gate: &mut Gateway, to: u8, tag: u64) -> Option<Word>
     ensures answer { result ≡ greet_answer to tag gate.old }
     ensures after { gate.new ≡ greet_after to tag gate.old }
@@ -46,6 +49,7 @@ pub fn greet(gate: &mut Gateway, to: u8, tag: u64) -> Option<Word>
 }
 
 /// A tick passes.
+#[tactic(auto, using(crate::proofs::Followed::tick_follows))]
 pub fn tick(gate: &mut Gateway)
     ensures after { gate.new ≡ ticked gate.old }
     ensures follows { TickFollows gate.old gate.new }
@@ -54,6 +58,7 @@ pub fn tick(gate: &mut Gateway)
 }
 
 /// The gate is switched off and on.
+#[tactic(auto, using(crate::proofs::Followed::restart_follows))]
 pub fn restart(gate: &mut Gateway)
     ensures after { gate.new ≡ restarted gate.old }
     ensures follows { RestartFollows gate.old gate.new }
@@ -62,6 +67,7 @@ pub fn restart(gate: &mut Gateway)
 }
 
 // Any gates that run these calls, and a net, do only runs of the abstract protocol: the calls are the code that it asks for.
+#[tactic(auto, using(crate::proofs::Asks::as_asked))]
 pub fn code_is_as_asked()
     ensures { AsAsked }
 {}

@@ -9,4 +9,4 @@ mod state;
 
 pub use calls::{code_is_as_asked, greet, put, restart, start, take, tick};
 pub use sea::it_always_can;
-pub use state::{Event, Letter, Outcome, Parcel, Sea};
+pub use state::{Event, EventKind, Letter, Outcome, Parcel, Sea};

@@ -1,11 +1,11 @@
 // Gates and a net of words, driven by events; the promise stands on `play`. Assumes that drawn tags are new, where a contract says so.
-ghost use Rattle.std.specs.Prelude.{◌≡◌, ℕ, ◌+◌, ◌<◌, ◌≤◌, true, ◌++◌, length, take as front, is_ok, IfOk, if◌then◌else◌, Some, None, vec_len, vec_capacity};
-ghost use Rattle.refinement.specs.Sea.{list_of, is_there, letter_in, entered, happens, plays, Plays, Books, books_of, Begun, CanOpen};
+ghost use Rattle.std.specs.Prelude.{◌≡◌, ℕ, ◌+◌, ◌<◌, ◌≤◌, true, ◌++◌, length, take as front, is_ok, IfOk, if◌then◌else◌, vec_len, vec_capacity};
+ghost use Rattle.refinement.specs.Sea.{list_of, entered, happens, plays, Plays, Books, books_of, new_gates, Begun, CanOpen};
 
 use crate::acts::act;
 use crate::calls::start;
-use crate::state::{Event, Letter, Outcome, Parcel, Sea};
-use gateway::{Gateway, Word};
+use crate::state::{Event, Letter, Outcome, Sea};
+use gateway::Gateway;
 use std::alloc::{AllocError, Global};
 
 /// Adds a letter, if there is one, where there is room for it.
@@ -18,18 +18,23 @@ fn note(list: &mut Vec<Letter>, letter: Option<Letter>)
     }
 }
 
+/// Gates that were just made, by their numbers.
+fn made(heap: Global, gates: u8, life: u16, most: u32) -> Result<Vec<Gateway>, AllocError>
+    ensures { IfOk result (λ v. v.items ≡ new_gates gates life most gates) }
+{
+    (0..gates)
+        .map(|own| start(own, gates, life, most))
+        .collect(heap)
+}
+
 impl Sea {
     /// Gates that were just made, and an empty net; each talk is good for so many ticks and so many numbers.
-    #[tactic(auto, using(crate::proofs::Begins::beginning))]
+    #[tactic(auto, using(crate::proofs::Begins::begun))]
     pub fn new(heap: Global, gates: u8, life: u16, most: u32) -> Result<Sea, AllocError>
         ensures { IfOk result (λ s. Begun gates life most (books_of s)) }
     {
-        let mut all = Vec::new(heap);
-        for own in 0..gates {
-            all.push(start(own, gates, life, most))?;
-        }
         Ok(Sea {
-            gates: all,
+            gates: made(heap, gates, life, most)?,
             net: Vec::new(heap),
             put: Vec::new(heap),
             out: Vec::new(heap),
@@ -69,38 +74,6 @@ impl Sea {
         self.out.reserve(1)
     }
 
-    /// The letter that an event brings, or one that says nothing where it brings none; none where there is no letter at its place.
-    fn letter_for(&self, event: Event) -> Option<Letter>
-        ensures { result ≡ (if is_there event self.now.net.items then Some (letter_in event self.now.net.items) else None) }
-    {
-        let Event::Bring {
-            gate: _,
-            place,
-            tag: _,
-        } = event
-        else {
-            let word = Word::Hello {
-                by: 0,
-                to: 0,
-                tag: 0,
-                at: 0,
-            };
-            return Some(Letter {
-                word,
-                parcel: Parcel {
-                    from: 0,
-                    to: 0,
-                    what: 0,
-                },
-            });
-        };
-        if place < self.net.len() {
-            Some(self.net[place])
-        } else {
-            None
-        }
-    }
-
     /// Enters what an event did into a gate's memory and the books.
     fn enter(&mut self, at: usize, memory: Gateway, outcome: Outcome)
         requires here { at < vec_len self.old.gates }
@@ -120,16 +93,13 @@ impl Sea {
         ensures { books_of self.new ≡ (if is_ok result then happens owners.now event (books_of self.old) else books_of self.old) }
     {
         self.make_room()?;
-        let at = usize::from(event.gate());
-        if at >= self.gates.len() {
-            return Ok(());
-        }
-        let Some(letter) = self.letter_for(event) else {
+        let at = usize::from(event.gate);
+        let Some(mut memory) = self.gates.get(at).copied() else {
             return Ok(());
         };
-        let mut memory = self.gates[at];
-        let outcome = act(&mut memory, owners, event, letter);
-        self.enter(at, memory, outcome);
+        if let Some(outcome) = act(&mut memory, owners, self.net.as_slice(), event.kind) {
+            self.enter(at, memory, outcome);
+        }
         Ok(())
     }
 
@@ -142,18 +112,17 @@ impl Sea {
         ensures played { books_of self.new ≡ plays owners.now (front result events.now) (books_of self.old) }
         ensures keeps { Plays owners.now (front result events.now) (books_of self.old) (books_of self.new) }
     {
-        let mut played = 0;
-        for event in events {
+        for (played, event) in events.iter().enumerate() {
             if self.step(owners, *event).is_err() {
                 return played;
             }
-            played += 1;
         }
-        played
+        events.len()
     }
 }
 
 // From every state that gates and a net reach, a hello of a new tick and its reply give two gates a talk, and what is then put in comes out, once.
+#[tactic(auto, using(crate::proofs::Opening::can_open))]
 pub fn it_always_can()
     ensures { CanOpen }
 {}

@@ -2,7 +2,7 @@
 use gateway::{Gateway, Word};
 
 /// A packet of the inner networks as a value: its addresses, and a number that stands for its bytes.
-#[derive(Clone, Copy)]
+#[derive(Clone, Copy, Debug, Default, PartialEq, Eq)]
 pub struct Parcel {
     pub from: u32,
     pub to: u32,
@@ -13,26 +13,33 @@ pub struct Parcel {
 #[derive(Clone, Copy)]
 pub struct Letter {
     pub word: Word,
-    pub parcel: Parcel,
+    pub parcel: Option<Parcel>,
 }
 
-/// What can happen.
-#[derive(Clone, Copy)]
-pub enum Event {
-    /// A gate's clock moves on.
-    Tick { gate: u8 },
-    /// A gate is switched off and on.
-    Restart { gate: u8 },
-    /// A gate makes a hello to another under a drawn tag.
-    Greet { gate: u8, to: u8, tag: u64 },
-    /// A packet is put in at a gate.
-    Put { gate: u8, parcel: Parcel },
-    /// The word at a place of the net is brought to a gate, with a tag drawn for a reply, 0 where there is none.
-    Bring { gate: u8, place: usize, tag: u64 },
+/// What can happen at a gate.
+#[derive(Clone, Copy, Debug, PartialEq, Eq)]
+pub enum EventKind {
+    /// Its clock moves on.
+    Tick,
+    /// It is switched off and on.
+    Restart,
+    /// It makes a hello to another gate under a drawn tag.
+    Greet { to: u8, tag: u64 },
+    /// A packet is put in.
+    Put(Parcel),
+    /// The word at a place of the net is brought, with a tag drawn for a reply, 0 where there is none.
+    Bring { place: usize, tag: u64 },
+}
+
+/// Something that happens, and the gate at which it does.
+#[derive(Clone, Copy, Debug, PartialEq, Eq)]
+pub struct Event {
+    pub gate: u8,
+    pub kind: EventKind,
 }
 
 /// What an event adds: at most one word to the net, one packet to what was put in, and one to what came out.
-#[derive(Clone, Copy)]
+#[derive(Clone, Copy, Default)]
 pub struct Outcome {
     pub sent: Option<Letter>,
     pub put: Option<Letter>,

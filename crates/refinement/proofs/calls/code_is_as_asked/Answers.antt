@@ -1,5 +1,0 @@
-use Rattle.refinement.proofs.Asks.{as_asked}
-use Rattle.refinement.proofs.calls.code_is_as_asked.Goals as goal
-
-pub returns : goal.returns
-returns c = as_asked

@@ -1,5 +1,0 @@
-use Rattle.refinement.proofs.Opening.{can_open}
-use Rattle.refinement.proofs.sea.it_always_can.Goals as goal
-
-pub returns : goal.returns
-returns c = can_open
