@@ -3,6 +3,7 @@
 #![tactic(auto)]
 
 use gateway::Word;
+use refinement::EventKind::{self, Bring, Greet, Put, Restart, Tick};
 use refinement::{Event, Letter, Parcel, Sea};
 
 /// Gate k owns the addresses from 10 * k to 10 * k + 9; the rest is nobody's.
@@ -36,200 +37,99 @@ struct Line {
     event: Event,
 }
 
-const STORY: [Line; 22] = [
-    Line {
-        says: "a tick passes at gate 0",
-        event: Event::Tick { gate: 0 },
-    },
-    Line {
-        says: "gate 0 greets gate 1",
-        event: Event::Greet {
-            gate: 0,
-            to: 1,
-            tag: 5,
-        },
-    },
-    Line {
-        says: "the hello is brought to gate 1",
-        event: Event::Bring {
-            gate: 1,
-            place: 0,
-            tag: 9,
-        },
-    },
-    Line {
-        says: "the reply is brought to gate 0",
-        event: Event::Bring {
-            gate: 0,
-            place: 1,
-            tag: 0,
-        },
-    },
-    Line {
-        says: "a packet is put in at gate 0",
-        event: Event::Put {
-            gate: 0,
-            parcel: RAMP,
-        },
-    },
-    Line {
-        says: "it is brought to gate 1",
-        event: Event::Bring {
-            gate: 1,
-            place: 2,
-            tag: 0,
-        },
-    },
-    Line {
-        says: "it is brought to gate 1 again",
-        event: Event::Bring {
-            gate: 1,
-            place: 2,
-            tag: 0,
-        },
-    },
-    Line {
-        says: "it is brought to gate 2",
-        event: Event::Bring {
-            gate: 2,
-            place: 2,
-            tag: 0,
-        },
-    },
-    Line {
-        says: "gate 1 is switched off and on",
-        event: Event::Restart { gate: 1 },
-    },
-    Line {
-        says: "the kept packet is brought to gate 1",
-        event: Event::Bring {
-            gate: 1,
-            place: 2,
-            tag: 0,
-        },
-    },
-    Line {
-        says: "the kept hello is brought to gate 1",
-        event: Event::Bring {
-            gate: 1,
-            place: 0,
-            tag: 10,
-        },
-    },
-    Line {
-        says: "a packet is put in at gate 0, which is still sure",
-        event: Event::Put {
-            gate: 0,
-            parcel: RAMP,
-        },
-    },
-    Line {
-        says: "it is brought to gate 1, which has forgotten",
-        event: Event::Bring {
-            gate: 1,
-            place: 3,
-            tag: 0,
-        },
-    },
-    Line {
-        says: "a tick passes at gate 0",
-        event: Event::Tick { gate: 0 },
-    },
-    Line {
-        says: "gate 0 greets gate 1",
-        event: Event::Greet {
-            gate: 0,
-            to: 1,
-            tag: 6,
-        },
-    },
-    Line {
-        says: "the hello is brought to gate 1",
-        event: Event::Bring {
-            gate: 1,
-            place: 4,
-            tag: 11,
-        },
-    },
-    Line {
-        says: "the reply is brought to gate 0",
-        event: Event::Bring {
-            gate: 0,
-            place: 5,
-            tag: 0,
-        },
-    },
-    Line {
-        says: "the kept packet is brought to gate 1 once more",
-        event: Event::Bring {
-            gate: 1,
-            place: 2,
-            tag: 0,
-        },
-    },
-    Line {
-        says: "a packet is put in at gate 0",
-        event: Event::Put {
-            gate: 0,
-            parcel: RAMP,
-        },
-    },
-    Line {
-        says: "it is brought to gate 1",
-        event: Event::Bring {
-            gate: 1,
-            place: 6,
-            tag: 0,
-        },
-    },
-    Line {
-        says: "a packet under gate 2's name is put in at gate 0",
-        event: Event::Put {
-            gate: 0,
-            parcel: FALSE_RAMP,
-        },
-    },
-    Line {
-        says: "a word that is not there is brought to gate 1",
-        event: Event::Bring {
-            gate: 1,
-            place: 7,
-            tag: 0,
-        },
-    },
-];
+impl Line {
+    /// What it says, and what happens then at which gate.
+    fn new(says: &'static str, gate: u8, kind: EventKind) -> Line {
+        Line {
+            says,
+            event: Event { gate, kind },
+        }
+    }
+}
+
+/// The whole story.
+fn story() -> [Line; 22] {
+    [
+        Line::new("a tick passes at gate 0", 0, Tick),
+        Line::new("gate 0 greets gate 1", 0, Greet { to: 1, tag: 5 }),
+        Line::new(
+            "the hello is brought to gate 1",
+            1,
+            Bring { place: 0, tag: 9 },
+        ),
+        Line::new(
+            "the reply is brought to gate 0",
+            0,
+            Bring { place: 1, tag: 0 },
+        ),
+        Line::new("a packet is put in at gate 0", 0, Put(RAMP)),
+        Line::new("it is brought to gate 1", 1, Bring { place: 2, tag: 0 }),
+        Line::new(
+            "it is brought to gate 1 again",
+            1,
+            Bring { place: 2, tag: 0 },
+        ),
+        Line::new("it is brought to gate 2", 2, Bring { place: 2, tag: 0 }),
+        Line::new("gate 1 is switched off and on", 1, Restart),
+        Line::new(
+            "the kept packet is brought to gate 1",
+            1,
+            Bring { place: 2, tag: 0 },
+        ),
+        Line::new(
+            "the kept hello is brought to gate 1",
+            1,
+            Bring { place: 0, tag: 10 },
+        ),
+        Line::new(
+            "a packet is put in at gate 0, which is still sure",
+            0,
+            Put(RAMP),
+        ),
+        Line::new(
+            "it is brought to gate 1, which has forgotten",
+            1,
+            Bring { place: 3, tag: 0 },
+        ),
+        Line::new("a tick passes at gate 0", 0, Tick),
+        Line::new("gate 0 greets gate 1", 0, Greet { to: 1, tag: 6 }),
+        Line::new(
+            "the hello is brought to gate 1",
+            1,
+            Bring { place: 4, tag: 11 },
+        ),
+        Line::new(
+            "the reply is brought to gate 0",
+            0,
+            Bring { place: 5, tag: 0 },
+        ),
+        Line::new(
+            "the kept packet is brought to gate 1 once more",
+            1,
+            Bring { place: 2, tag: 0 },
+        ),
+        Line::new("a packet is put in at gate 0", 0, Put(RAMP)),
+        Line::new("it is brought to gate 1", 1, Bring { place: 6, tag: 0 }),
+        Line::new(
+            "a packet under gate 2's name is put in at gate 0",
+            0,
+            Put(FALSE_RAMP),
+        ),
+        Line::new(
+            "a word that is not there is brought to gate 1",
+            1,
+            Bring { place: 7, tag: 0 },
+        ),
+    ]
+}
 
 /// A letter of the net in words.
 fn name(letter: Letter) -> &'static str {
     match letter.word {
-        Word::Hello {
-            by: _,
-            to: _,
-            tag: _,
-            at: _,
-        } => "a hello",
-        Word::Reply {
-            by: _,
-            to: _,
-            tag: _,
-            answers: _,
-        } => "a reply",
-        Word::Packet {
-            by: _,
-            to: _,
-            by_tag: _,
-            to_tag: _,
-            number: _,
-            source: _,
-            goal: _,
-        } => "a packet",
-        Word::Empty {
-            by: _,
-            to: _,
-            by_tag: _,
-            to_tag: _,
-            number: _,
-        } => "a keepalive",
+        Word::Hello { .. } => "a hello",
+        Word::Reply { .. } => "a reply",
+        Word::Packet { .. } => "a packet",
+        Word::Empty { .. } => "a keepalive",
     }
 }
 
@@ -244,9 +144,8 @@ fn play(rt: &HostRuntime, sea: &mut Sea, line: Line) -> anyhow::Result<()> {
         let sent = name(*letter);
         print!(rt; ": {sent} goes out as word {words}")?;
     }
-    if let Some(letter) = sea.came_out().get(came) {
-        let from = letter.parcel.from;
-        let to = letter.parcel.to;
+    let parcel = sea.came_out().get(came).and_then(|letter| letter.parcel);
+    if let Some(Parcel { from, to, .. }) = parcel {
         print!(rt; ": it comes out, from {from} to {to}")?;
     }
     println!(rt; "")?;
@@ -255,7 +154,7 @@ fn play(rt: &HostRuntime, sea: &mut Sea, line: Line) -> anyhow::Result<()> {
 
 fn run(rt: &HostRuntime) -> anyhow::Result<()> {
     let mut sea = Sea::new(rt.alloc(), 3, LIFE, MOST)?;
-    for line in STORY {
+    for line in story() {
         play(rt, &mut sea, line)?;
     }
     let put = sea.put_in().len();
