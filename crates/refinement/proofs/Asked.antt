@@ -20,14 +20,13 @@ use Rattle.gateway.specs.declared.state.Talk.{Talk}
 use Rattle.gateway.specs.declared.state.Wait.{Wait}
 use Rattle.gateway.specs.declared.state.Peer.{Peer}
 use Rattle.gateway.specs.declared.state.Gateway.{Gateway}
-use Rattle.gateway.specs.Slots.{first_that}
+use Rattle.gateway.specs.Slots.{first_that, holds}
 use Rattle.gateway.specs.declared.state.Word.{Word}
 use Rattle.gateway.specs.declared.state.Word.TheVariants.{Hello}
 use Rattle.gateway.specs.Talks.{lives, may_send}
 use Rattle.gateway.specs.Peers.{forgotten, can_answer, is_asked, is_greeted, asked, stored}
 use Rattle.gateway.specs.Talks.{sent_one}
 use Rattle.gateway.specs.Steps.{blank, peer_at, storing, is_peer, answer, leaves, put_fault, packet_in, sent_after, put, put_after, may_greet, greet, greet_after, sending}
-use Rattle.gateway.proofs.Slots.{Fails}
 use Rattle.refinement.specs.Relation.{rules_of, with_peer, SameTalk, Vacant, Agrees, SamePeer, Stands}
 use Rattle.refinement.specs.Calls.{Ticks, Says, Sends, Falls, nothing, sent_as, put_as, gone_out, drawn_as, does, doing}
 use Rattle.refinement.proofs.Sessions.{FoundBoth, sending_both, found_same, peer_in}
@@ -66,11 +65,11 @@ peer_other e s h q =
 
 -- what stood in the place of a new hello can no longer be answered
 place_free : (now n t : ℕ) (ws : List (Option Wait)) (i : ℕ) → i ≡ now % 6 → now ≤ n → ((j : ℕ) (x : Wait) → get_or ws j None ≡ Some x → (x.at % 6 ≡ j) × (x.at ≤ now)) →
-    ((j : ℕ) (x : Wait) → get_or ws j None ≡ Some x → x.at ≡ now → ⊥) → Fails (can_answer n t) (get_or ws i None)
+    ((j : ℕ) (x : Wait) → get_or ws j None ≡ Some x → x.at ≡ now → ⊥) → holds (can_answer n t) (get_or ws i None) ≡ false
 place_free now n t ws i is l placed fresh = go (get_or ws i None) refl
   where
-    go : (o : Option Wait) → get_or ws i None ≡ o → Fails (can_answer n t) o
-    go None s = tt
+    go : (o : Option Wait) → get_or ws i None ≡ o → holds (can_answer n t) o ≡ false
+    go None s = refl
     go (Some x) s =
         let p : x.at % 6 ≡ i = (placed i x s).0 in
         let q : x.at ≤ now = (placed i x s).1 in
@@ -270,7 +269,7 @@ module _ (k life most : ℕ) (fits : most < 2 ^ 32) (owner : ℕ → ℕ) where
       in-six : s.now % 6 < length p.waits
       in-six = let l = old.six in omega arith
 
-      free_at : (n u : ℕ) → now ≤ n → Fails (can_answer n u) (get_or p.waits (s.now % 6) None)
+      free_at : (n u : ℕ) → now ≤ n → holds (can_answer n u) (get_or p.waits (s.now % 6) None) ≡ false
       free_at n u l =
           place_free now n u p.waits (s.now % 6) (ap (λ z. z % 6) st.now_so) l old.placed (λ j x h z. not-greeted s.now p.waits free j x h (z ∙ sym st.now_so))
 
@@ -371,22 +370,22 @@ module _ (k life most : ℕ) (fits : most < 2 ^ 32) (owner : ℕ → ℕ) where
       goal = owner x.to
 
       D : Type 0
-      D = Follows (Stands k life most a) a w (step r (Puts a x) w) (putting x (gone_out (put source goal s)) (put_after source goal s))
+      D = Follows (Stands k life most a) a w (step r (Puts a x) w) (putting x (gone_out (put (Some source) (Some goal) s)) (put_after (Some source) (Some goal) s))
 
       -- nothing happens on either side
-      still : step r (Puts a x) w ≡ w → gone_out (put source goal s) ≡ None → put_after source goal s ≡ s → D
+      still : step r (Puts a x) w ≡ w → gone_out (put (Some source) (Some goal) s) ≡ None → put_after (Some source) (Some goal) s ≡ s → D
       still p q u =
           subst
-          (λ z. Follows (Stands k life most a) a w z (putting x (gone_out (put source goal s)) (put_after source goal s)))
+          (λ z. Follows (Stands k life most a) a w z (putting x (gone_out (put (Some source) (Some goal) s)) (put_after (Some source) (Some goal) s)))
           (sym p)
           (subst (λ d. Follows (Stands k life most a) a w w d) (ap₂ (putting x) (sym q) (sym u)) (record { stands = st; net_so = refl; put_so = refl; out_so = refl; drawn_so = refl }))
 
-      fault : (o : Option Refusal) → put_fault source goal s ≡ o → (gone_out (put source goal s) ≡ gone_out (answer o (packet_in s.own source goal (sending goal s)))) × (put_after source goal s ≡ leaves o s (sent_after goal s (sending goal s)))
-      fault o e = (ap (λ z. gone_out (answer z (packet_in s.own source goal (sending goal s)))) e, ap (λ z. leaves z s (sent_after goal s (sending goal s))) e)
+      fault : (o : Option Refusal) → put_fault (Some source) (Some goal) s ≡ o → (gone_out (put (Some source) (Some goal) s) ≡ gone_out (answer o (packet_in s.own (Some source) goal (sending goal s)))) × (put_after (Some source) (Some goal) s ≡ leaves o s (sent_after goal s (sending goal s)))
+      fault o e = (ap (λ z. gone_out (answer z (packet_in s.own (Some source) goal (sending goal s)))) e, ap (λ z. leaves z s (sent_after goal s (sending goal s))) e)
 
       -- a talk is used, on both sides
-      used : (t : Session) (u : Talk) → is_peer goal s ≡ true → first_that (may_send s.now s.life s.most) (peer_at goal s).talks ≡ Some u → In t (with_peer goal g.talks) → SameTalk t u →
-          Follows (Stands k life most a) a w (sends a x (This t) w) (putting x (packet_in s.own source goal (Some u)) (sent_after goal s (Some u)))
+      used : (t : Session) (u : Talk) → is_peer goal s ≡ true → first_that (may_send s.now s.terms.life s.terms.most) (peer_at goal s).talks ≡ Some u → In t (with_peer goal g.talks) → SameTalk t u →
+          Follows (Stands k life most a) a w (sends a x (This t) w) (putting x (packet_in s.own (Some source) goal (Some u)) (sent_after goal s (Some u)))
       used t u pg found i same =
           record {
             stands =
@@ -396,22 +395,22 @@ module _ (k life most : ℕ) (fits : most < 2 ^ 32) (owner : ℕ → ℕ) where
                 (subst
                 (λ m. Stands k life most a (storing goal (stored (sent_one u) (peer_at goal s)) s) (w.now a) (with-sessions (change m abstract.sent_one g.talks) g))
                 same.mine_so
-                (stands-changed k life most a s (w.now a) g goal st pg ((inv r es).memory a).apart (may_send s.now s.life s.most) abstract.sent_one u (sent_one u) found refl (λ z. refl) (λ z h. sent-same z u less h)));
+                (stands-changed k life most a s (w.now a) g goal st pg ((inv r es).memory a).apart (may_send s.now s.terms.life s.terms.most) abstract.sent_one u (sent_one u) found refl (λ z. refl) (λ z h. sent-same z u less h)));
             net_so = λ j. PacketWord (own_is j) (with-is j) (mine-is j) (theirs-is j) (number_is j) x ∷ w.net;
             put_so = λ j. note (own_is j) (with-is j) (mine-is j) (theirs-is j) (number_is j) x ∷ w.put;
             out_so = refl;
             drawn_so = refl;
           }
         where
-          may : may_send s.now s.life s.most u ≡ true
-          may = (found_same (may_send s.now s.life s.most) (with_peer goal g.talks) (peer_at goal s).talks u (st.peers_so goal pg).talks_so found).3
+          may : may_send s.now s.terms.life s.terms.most u ≡ true
+          may = (found_same (may_send s.now s.terms.life s.terms.most) (with_peer goal g.talks) (peer_at goal s).talks u (st.peers_so goal pg).talks_so found).3
 
           less : u.sent < most
           less =
-              let p = and_parts u.sure (lives s.now s.life u && ltb u.sent s.most) may in
-              let q = and_parts (lives s.now s.life u) (ltb u.sent s.most) p.1 in
-              let b : u.sent < s.most = ltb-true u.sent s.most q.1 in
-              let e : s.most ≡ most = st.most_so in
+              let p = and_parts u.sure (lives s.now s.terms.life u && ltb u.sent s.terms.most) may in
+              let q = and_parts (lives s.now s.terms.life u) (ltb u.sent s.terms.most) p.1 in
+              let b : u.sent < s.terms.most = ltb-true u.sent s.terms.most q.1 in
+              let e : s.terms.most ≡ most = st.most_so in
               omega arith
 
           own_is : a ≡ s.own
@@ -420,17 +419,17 @@ module _ (k life most : ℕ) (fits : most < 2 ^ 32) (owner : ℕ → ℕ) where
           with-is : t.with' ≡ goal
           with-is = (peer_in goal g.talks t i).1
 
-          mine-is : t.mine ≡ u.mine
+          mine-is : t.mine ≡ u.tags.mine
           mine-is = sym same.mine_so
 
-          theirs-is : t.theirs ≡ u.theirs
+          theirs-is : t.theirs ≡ u.tags.theirs
           theirs-is = sym same.theirs_so
 
           number_is : suc t.sent ≡ (sent_one u).sent
           number_is = sym (sent-same t u less same).sent_so
 
-      by_found : (f : Found) (o : Option Talk) → is_peer goal s ≡ true → first_that (may_send s.now s.life s.most) (peer_at goal s).talks ≡ o → FoundBoth (with_peer goal g.talks) f o →
-          Follows (Stands k life most a) a w (sends a x f w) (putting x (packet_in s.own source goal o) (sent_after goal s o))
+      by_found : (f : Found) (o : Option Talk) → is_peer goal s ≡ true → first_that (may_send s.now s.terms.life s.terms.most) (peer_at goal s).talks ≡ o → FoundBoth (with_peer goal g.talks) f o →
+          Follows (Stands k life most a) a w (sends a x f w) (putting x (packet_in s.own (Some source) goal o) (sent_after goal s o))
       by_found NoTalk None pg found both = record { stands = st; net_so = refl; put_so = refl; out_so = refl; drawn_so = refl }
       by_found NoTalk (Some u) pg found both = absurd both
       by_found (This t) None pg found both = absurd both
@@ -447,7 +446,7 @@ module _ (k life most : ℕ) (fits : most < 2 ^ 32) (owner : ℕ → ℕ) where
       by_goal true pg h =
           let fl = fault None (cond-true (eqb source s.own) _ _ h ∙ cond-true (is_peer goal s) _ _ pg) in
           subst
-          (λ z. Follows (Stands k life most a) a w z (putting x (gone_out (put source goal s)) (put_after source goal s)))
+          (λ z. Follows (Stands k life most a) a w z (putting x (gone_out (put (Some source) (Some goal) s)) (put_after (Some source) (Some goal) s)))
           (sym (cond-true (eqb source a && not (eqb goal a)) (sends a x (for_sending r (w.now a) goal g.talks) w) w (and_from (eqb source a) (not (eqb goal a)) (ap (λ z. eqb source z) (sym st.own_so) ∙ h) (not_from_false (eqb goal a) (ne_eqb goal a (λ z. peer_other goal s pg (st.own_so ∙ sym z)))))))
           (subst
           (λ d. Follows (Stands k life most a) a w (sends a x (for_sending r (w.now a) goal g.talks) w) d)

@@ -4,9 +4,8 @@ use Rattle.std.proofs.lemmas.Bool.{eqb-true, eqb-false, ne_eqb}
 use Rattle.gates.specs.World.{waits_for, without_wait}
 use Rattle.gates.specs.World.{Wait as Waiter}
 use Rattle.gateway.specs.declared.state.Wait.{Wait}
-use Rattle.gateway.specs.Slots.{first_that, emptied}
+use Rattle.gateway.specs.Slots.{first_that, emptied, holds}
 use Rattle.gateway.specs.Peers.{can_answer, has_tag}
-use Rattle.gateway.proofs.Slots.{Fails}
 
 -- b: the tag is the one that goes; a: this one passes; c: another one does
 kept : (a b c : Bool) → (b ≡ true → a ≡ false) → (a || (not b && c)) ≡ (not b && (a || c))
@@ -36,7 +35,7 @@ any_cons p x xs = go (p x)
     go false = refl
 
 -- one more in a place of which what stood there did not pass
-pub any_set : {A : Type 0} (p : A → Bool) (y : A) (xs : List (Option A)) (i : ℕ) → i < length xs → Fails p (get_or xs i None) → any p (set xs i (Some y)) ≡ (p y || any p xs)
+pub any_set : {A : Type 0} (p : A → Bool) (y : A) (xs : List (Option A)) (i : ℕ) → i < length xs → holds p (get_or xs i None) ≡ false → any p (set xs i (Some y)) ≡ (p y || any p xs)
 unfolding first_that
 any_set p y [] i l f = absurd (no_place i l)
   where

@@ -1,5 +1,5 @@
 -- Each public call, by its answer and the memory after, does what its events do. Assumes nothing.
-use Rattle.std.proofs.Common.{◌≡◌, ℕ, ◌≤◌, List, [], ◌∷◌, ◌++◌, Option, Result, sym, refl, ◌∙◌, subst, arith}
+use Rattle.std.proofs.Common.{◌≡◌, ℕ, ◌≤◌, List, [], ◌∷◌, ◌++◌, Some, Option, Result, sym, refl, ap, ◌∙◌, subst, arith}
 use Rattle.std.proofs.lemmas.List.{get_or-replicate}
 use Rattle.protocol.specs.declared.refusals.Refusal.{Refusal}
 use Rattle.gates.specs.Lists.{At}
@@ -16,6 +16,7 @@ use Rattle.gateway.specs.Steps.{blank, fresh, took, took_after, put, put_after, 
 use Rattle.refinement.specs.Relation.{rules_of, with_peer, Vacant, Agrees, SamePeer, Stands}
 use Rattle.refinement.specs.Calls.{Ticks, Says, Sends, Falls, drawn_of, as_code, sent_for, drew_for, out_for, hears, hearing, sent_as, put_as, gone_out, drawn_as, does, doing}
 use Rattle.refinement.specs.Steps.{TakeFollows, PutFollows, GreetFollows, TickFollows, RestartFollows}
+use Rattle.refinement.proofs.Owning.{reads_took, reads_after, put_same, put_after_same}
 use Rattle.refinement.proofs.Standing.{peer_bound}
 use Rattle.refinement.proofs.Asked.{ticks_so, falls_so, says_so, sends_so, empty-place}
 use Rattle.refinement.proofs.Taking.{hello_so, reply_so, packet_so, empty_so}
@@ -31,22 +32,22 @@ hears_so k life most few owner es a (EmptyWord by f m h n) ts s i b st p new = e
 
 pub take_follows : (word : Word) (drawn : ℕ) (s : Gateway) (res : Result Taken Refusal) (after : Gateway) → res ≡ took word drawn s → after ≡ took_after word drawn s → TakeFollows word drawn s res after
 unfolding TakeFollows
-take_follows word drawn s res after er ea k life most owner es a x ts i few b is_IsWord is-drawn st p new =
+take_follows word drawn s res after er ea k life most owner es a x ts i few b reads is-drawn st p new =
     subst
     (λ d. Follows (Stands k life most a) a (world (rules_of life most owner) es) (world (rules_of life most owner) (hearing owner a x ts s i ++ es)) d)
     same
     (hears_so k life most few owner es a x ts s i b st p new)
   where
     r_is : took (as_code owner x) (drawn_of ts) s ≡ res
-    r_is = (λ j. took (is_IsWord j) (is-drawn j) s) ∙ sym er
+    r_is = reads_took s owner x word (drawn_of ts) reads ∙ (ap (λ d. took word d s) is-drawn ∙ sym er)
 
     a_is : took_after (as_code owner x) (drawn_of ts) s ≡ after
-    a_is = (λ j. took_after (is_IsWord j) (is-drawn j) s) ∙ sym ea
+    a_is = reads_after s owner x word (drawn_of ts) reads ∙ (ap (λ d. took_after word d s) is-drawn ∙ sym ea)
 
     same : hears owner a x ts s ≡ record { after = after; sent = sent_for res; put = []; out = out_for a x res; drew = drew_for drawn res }
     same j = record { after = a_is j; sent = sent_for (r_is j); put = []; out = out_for a x (r_is j); drew = drew_for (is-drawn j) (r_is j) }
 
-pub put_follows : (source goal : ℕ) (s : Gateway) (res : Result (Option Word) Refusal) (after : Gateway) → res ≡ put source goal s → after ≡ put_after source goal s → PutFollows source goal s res after
+pub put_follows : (source goal : Option ℕ) (s : Gateway) (res : Result (Option Word) Refusal) (after : Gateway) → res ≡ put source goal s → after ≡ put_after source goal s → PutFollows source goal s res after
 unfolding PutFollows
 put_follows source goal s res after er ea k life most owner es a x fits from to st =
     subst
@@ -54,11 +55,11 @@ put_follows source goal s res after er ea k life most owner es a x fits from to 
     same
     (sends_so k life most fits owner es a x s st)
   where
-    r_is : put (owner x.from) (owner x.to) s ≡ res
-    r_is = (λ j. put (from j) (to j) s) ∙ sym er
+    r_is : put (Some (owner x.from)) (Some (owner x.to)) s ≡ res
+    r_is = put_same s source goal (owner x.from) (owner x.to) from to ∙ sym er
 
-    a_is : put_after (owner x.from) (owner x.to) s ≡ after
-    a_is = (λ j. put_after (from j) (to j) s) ∙ sym ea
+    a_is : put_after (Some (owner x.from)) (Some (owner x.to)) s ≡ after
+    a_is = put_after_same s source goal (owner x.from) (owner x.to) from to ∙ sym ea
 
     same : does owner a (Sends x) s ≡ record { after = after; sent = sent_as x (gone_out res); put = put_as x (gone_out res); out = []; drew = [] }
     same j = record { after = a_is j; sent = sent_as x (gone_out (r_is j)); put = put_as x (gone_out (r_is j)); out = []; drew = [] }

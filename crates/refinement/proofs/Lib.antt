@@ -3,6 +3,7 @@ pub mod Asking
 pub mod Standing
 pub mod Asked
 pub mod Taking
+pub mod Owning
 pub mod Followed
 pub mod Playing
 pub mod Begins

@@ -13,15 +13,16 @@ use Rattle.gateway.specs.declared.state.Taken.TheVariants.{Answer, Sure, Out}
 use Rattle.gateway.specs.Slots.{first_that}
 use Rattle.gateway.specs.Talks.{fresh_talk, lives, may_send, names}
 use Rattle.gateway.specs.Peers.{can_answer, is_greeted, asked}
-use Rattle.gateway.specs.Steps.{blank, peer_at, storing, is_peer, answer, leaves, hello_fault, hello_peer, reply_fault, reply_peer, found_in, found_talk, if_owned, took, took_after, put_fault, packet_in, sending, put, put_after, may_greet, greet, greet_after, ticked}
+use Rattle.gateway.specs.Steps.{in_talk, between, blank, peer_at, storing, is_peer, answer, leaves, hello_fault, hello_peer, reply_fault, reply_peer, found_in, found_talk, if_owned, took, took_after, put_fault, packet_in, sending, put, put_after, may_greet, greet, greet_after, ticked}
 use Rattle.gateway.specs.Steps.{taken as answered-as}
 use Rattle.refinement.specs.declared.state.Letter.{Letter}
 use Rattle.refinement.specs.declared.state.EventKind.{EventKind}
 use Rattle.refinement.specs.declared.state.EventKind.TheVariants.{Tick, Greet, Put, Bring}
 use Rattle.refinement.specs.declared.state.Outcome.{Outcome}
 use Rattle.refinement.specs.Relation.{rules_of, SamePeer, Stands}
-use Rattle.refinement.specs.Calls.{as_code, gone_out}
-use Rattle.refinement.specs.Sea.{owner_in, sealed_of, Books, letter_of, silent, brought_out, list_of, no_gate, entered, entered_if, after_letter, letter_adds, after_of, outcome_of, at_gate, happens, plays, CanOpen}
+use Rattle.refinement.specs.Calls.{gone_out}
+use Rattle.refinement.specs.Sea.{owner_in, owner_at, opened, Books, letter_of, silent, brought_out, list_of, no_gate, entered, entered_if, after_letter, letter_adds, after_of, outcome_of, at_gate, happens, plays, CanOpen}
+use Rattle.refinement.proofs.Owning.{known_at}
 use Rattle.refinement.proofs.Standing.{peer_bound}
 
 -- no hello was said in a tick that is above all of theirs
@@ -66,7 +67,7 @@ nonzero t h = ne_eqb t 0 (λ e. omega arith)
 
 module _ (s_a s_e : Gateway) (t y : ℕ) (pe : is_peer s_e.own s_a ≡ true) (pa : is_peer s_a.own s_e ≡ true) (t_a : length s_a.peers ≡ 32) (t_e : length s_e.peers ≡ 32)
     (six : length (peer_at s_e.own s_a).waits ≡ 6) (old : (i : ℕ) (x : Wait) → get_or (peer_at s_e.own s_a).waits i None ≡ Some x → x.at ≤ s_a.now) (fell : s_a.fell ≤ s_a.now)
-    (clock : s_a.now < 2 ^ 64 - 1) (late : (peer_at s_a.own s_e).last_hello ≤ s_a.now) (nt : 0 < t) (ny : 0 < y) (most : 0 < s_a.most) where
+    (clock : s_a.now < 2 ^ 64 - 1) (late : (peer_at s_a.own s_e).last_hello ≤ s_a.now) (nt : 0 < t) (ny : 0 < y) (most : 0 < s_a.terms.most) where
   abbrev A : ℕ
   A = s_a.own
 
@@ -158,14 +159,14 @@ module _ (s_a s_e : Gateway) (t y : ℕ) (pe : is_peer s_e.own s_a ≡ true) (pa
 
   sends_by : sending E s₃ ≡ Some (fresh_talk t y N true)
   sends_by =
-      ap (λ (q : Peer). first_that (may_send N s_a.life s_a.most) q.talks) peer₃ ∙
-      first_passes (may_send N s_a.life s_a.most) (fresh_talk t y N true) (take 2 (peer_at E s₂).talks) (and_from (leb N (N + s_a.life)) (ltb 0 s_a.most) (le-leb N (N + s_a.life) (omega arith)) (lt-ltb 0 s_a.most most))
+      ap (λ (q : Peer). first_that (may_send N s_a.terms.life s_a.terms.most) q.talks) peer₃ ∙
+      first_passes (may_send N s_a.terms.life s_a.terms.most) (fresh_talk t y N true) (take 2 (peer_at E s₂).talks) (and_from (leb N (N + s_a.terms.life)) (ltb 0 s_a.terms.most) (le-leb N (N + s_a.terms.life) (omega arith)) (lt-ltb 0 s_a.terms.most most))
 
-  put-ok : put_fault A E s₃ ≡ None
+  put-ok : put_fault (Some A) (Some E) s₃ ≡ None
   put-ok = cond-true (eqb A s₃.own) _ _ (self A) ∙ cond-true (is_peer E s₃) _ _ pe
 
-  put_is : put A E s₃ ≡ Ok (Some (Packet A E t y 1 A E))
-  put_is = ap₂ (λ o u. answer o (packet_in A A E u)) put-ok sends_by
+  put_is : put (Some A) (Some E) s₃ ≡ Ok (Some (Packet (in_talk A E t y 1) (between (Some A) (Some E))))
+  put_is = ap₂ (λ o u. answer o (packet_in A (Some A) E u)) put-ok sends_by
 
   peer_e_lem : peer_at A e₁ ≡ hello_peer t N y s_e.now (peer_at A s_e)
   peer_e_lem = stored_peer A (hello_peer t N y s_e.now (peer_at A s_e)) s_e t_e in-E
@@ -174,10 +175,10 @@ module _ (s_a s_e : Gateway) (t y : ℕ) (pe : is_peer s_e.own s_a ≡ true) (pa
   found_e =
       cond-true (is_peer A e₁ && eqb E e₁.own) _ _ (and_from (is_peer A e₁) (eqb E e₁.own) pa (self E)) ∙
       (cond-false (eqb t 0 || eqb y 0) _ _ (or_from (eqb t 0) (eqb y 0) (nonzero t nt) (nonzero y ny)) ∙
-      (ap (found_in s_e.now s_e.life 1) (ap (λ (q : Peer). first_that (names y t) q.talks) peer_e_lem ∙ first_passes (names y t) (fresh_talk y t s_e.now false) (take 2 (peer_at A s_e).talks) (and_from (eqb y y) (eqb t t) (self y) (self t))) ∙
-      cond-true (lives s_e.now s_e.life (fresh_talk y t s_e.now false)) _ _ (le-leb s_e.now (s_e.now + s_e.life) (omega arith))))
+      (ap (found_in s_e.now s_e.terms.life 1) (ap (λ (q : Peer). first_that (names y t) q.talks) peer_e_lem ∙ first_passes (names y t) (fresh_talk y t s_e.now false) (take 2 (peer_at A s_e).talks) (and_from (eqb y y) (eqb t t) (self y) (self t))) ∙
+      cond-true (lives s_e.now s_e.terms.life (fresh_talk y t s_e.now false)) _ _ (le-leb s_e.now (s_e.now + s_e.terms.life) (omega arith))))
 
-  packet-took : took (Packet A E t y 1 A E) 0 e₁ ≡ Ok Out
+  packet-took : took (Packet (in_talk A E t y 1) (between (Some A) (Some E))) 0 e₁ ≡ Ok Out
   packet-took = ap (answered-as Out) (ap₂ if_owned (and_from (eqb A A) (eqb E e₁.own) (self A) (self E)) found_e)
 
 is_peer_lem : (e : ℕ) (s : Gateway) (k : ℕ) → s.gates ≡ k → e < k → k ≤ 32 → (e ≡ s.own → ⊥) → is_peer e s ≡ true
@@ -286,7 +287,7 @@ can_open owners k life most es b a e t y p few some fits h la le' ne from to clo
         let m = st_a.now_so in
         omega arith
 
-    most' : 0 < s_a.most
+    most' : 0 < s_a.terms.most
     most' = let q = st_a.most_so in omega arith
 
     n : ℕ
@@ -302,10 +303,10 @@ can_open owners k life most es b a e t y p few some fits h la le' ne from to clo
     reply = record { word = Reply s_e.own s_a.own y t; parcel = None }
 
     packet : Letter
-    packet = record { word = Packet s_a.own s_e.own t y 1 s_a.own s_e.own; parcel = Some p }
+    packet = record { word = Packet (in_talk s_a.own s_e.own t y 1) (between (Some s_a.own) (Some s_e.own)); parcel = Some p }
 
-    packet-is : packet ≡ record { word = Packet a e t y 1 a e; parcel = Some p }
-    packet-is j = record { word = Packet (is_a j) (is_e j) t y 1 (is_a j) (is_e j); parcel = Some p }
+    packet-is : packet ≡ record { word = Packet (in_talk a e t y 1) (between (Some a) (Some e)); parcel = Some p }
+    packet-is j = record { word = Packet (in_talk (is_a j) (is_e j) t y 1) (between (Some (is_a j)) (Some (is_e j))); parcel = Some p }
 
     net₂ : List Letter
     net₂ = b.net ++ (hello ∷ [])
@@ -335,10 +336,10 @@ can_open owners k life most es b a e t y p few some fits h la le' ne from to clo
     b₂ = happens owners (at_gate a (Greet e t)) b₁
 
     b₃ : Books
-    b₃ = happens owners (at_gate e (Bring n y)) b₂
+    b₃ = happens owners (at_gate e (Bring n (Some y))) b₂
 
     b₄ : Books
-    b₄ = happens owners (at_gate a (Bring (n + 1) 0)) b₃
+    b₄ = happens owners (at_gate a (Bring (n + 1) None)) b₃
 
     b₅ : Books
     b₅ = happens owners (at_gate a (Put p)) b₄
@@ -366,7 +367,7 @@ can_open owners k life most es b a e t y p few some fits h la le' ne from to clo
     st₃ : Stage k a e b₃ x₂ y₁ net₃ b.out
     st₃ =
         spoken b₃ x₂ y₁ net₃ b.out
-        (stage_e owners k a e la le' ne (Bring n y) b₂ x₂ s_e y₁ net₂ b.out (record { sent = Some reply; put = None; out = None })
+        (stage_e owners k a e la le' ne (Bring n (Some y)) b₂ x₂ s_e y₁ net₂ b.out (record { sent = Some reply; put = None; out = None })
         (ap (after_letter owners y s_e) (last_there b.net hello n refl) ∙ hello-after s_a s_e t y pe pa st_a.table st_e.table sp_e.six old st_a.fell_so clock late nt ny most')
         (ap (letter_adds owners y s_e) (last_there b.net hello n refl) ∙ ap (λ r. Some (brought_out hello r)) (hello-took s_a s_e t y pe pa st_a.table st_e.table sp_e.six old st_a.fell_so clock late nt ny most'))
         st₂)
@@ -374,29 +375,35 @@ can_open owners k life most es b a e t y p few some fits h la le' ne from to clo
     st₄ : Stage k a e b₄ x₃ y₁ net₃ b.out
     st₄ =
         quiet b₄ x₃ y₁ net₃ b.out
-        (stage_a owners k a e la le' ne (Bring (n + 1) 0) b₃ x₂ y₁ x₃ net₃ b.out silent
+        (stage_a owners k a e la le' ne (Bring (n + 1) None) b₃ x₂ y₁ x₃ net₃ b.out silent
         (ap (after_letter owners 0 x₂) (last_there net₂ reply (n + 1) len₂) ∙ reply-after s_a s_e t y pe pa st_a.table st_e.table sp_e.six old st_a.fell_so clock late nt ny most')
         (ap (letter_adds owners 0 x₂) (last_there net₂ reply (n + 1) len₂) ∙ ap (λ r. Some (brought_out reply r)) (reply-took s_a s_e t y pe pa st_a.table st_e.table sp_e.six old st_a.fell_so clock late nt ny most'))
         st₃)
 
-    put_so : put (owner_in owners p.from) (owner_in owners p.to) x₃ ≡ Ok (Some packet.word)
-    put_so = ap₂ (λ u v. put u v x₃) (from ∙ sym is_a) (to ∙ sym is_e) ∙ put_is s_a s_e t y pe pa st_a.table st_e.table sp_e.six old st_a.fell_so clock late nt ny most'
+    from_is : owner_at owners p.from ≡ Some s_a.own
+    from_is = known_at owners p.from a from (omega arith) ∙ ap Some (sym is_a)
 
-    st₅ : Stage k a e b₅ (put_after (owner_in owners p.from) (owner_in owners p.to) x₃) y₁ net₅ b.out
+    to-is : owner_at owners p.to ≡ Some s_e.own
+    to-is = known_at owners p.to e to (omega arith) ∙ ap Some (sym is_e)
+
+    put_so : put (owner_at owners p.from) (owner_at owners p.to) x₃ ≡ Ok (Some packet.word)
+    put_so = ap₂ (λ u v. put u v x₃) from_is to-is ∙ put_is s_a s_e t y pe pa st_a.table st_e.table sp_e.six old st_a.fell_so clock late nt ny most'
+
+    st₅ : Stage k a e b₅ (put_after (owner_at owners p.from) (owner_at owners p.to) x₃) y₁ net₅ b.out
     st₅ =
         spoken b₅ _ y₁ net₅ b.out
-        (stage_a owners k a e la le' ne (Put p) b₄ x₃ y₁ (put_after (owner_in owners p.from) (owner_in owners p.to) x₃) net₃ b.out (record { sent = Some packet; put = Some packet; out = None }) refl
+        (stage_a owners k a e la le' ne (Put p) b₄ x₃ y₁ (put_after (owner_at owners p.from) (owner_at owners p.to) x₃) net₃ b.out (record { sent = Some packet; put = Some packet; out = None }) refl
         (ap (λ o. Some (record { sent = letter_of (Some p) (gone_out o); put = letter_of (Some p) (gone_out o); out = None })) put_so)
         st₄)
 
     letter₅ : slice_get net₅ (n + 2) ≡ Some packet
     letter₅ = last_there net₃ packet (n + 2) len₃
 
-    opened : as_code (owner_in owners) (sealed_of packet) ≡ packet.word
-    opened = ap₂ (λ u v. Packet s_a.own s_e.own t y 1 u v) (from ∙ sym is_a) (to ∙ sym is_e)
+    opened-is : opened owners packet ≡ packet.word
+    opened-is = ap₂ (λ u v. Packet (in_talk s_a.own s_e.own t y 1) (between u v)) from_is to-is
 
-    final : Stage k a e (happens owners (at_gate e (Bring (n + 2) 0)) b₅) (put_after (owner_in owners p.from) (owner_in owners p.to) x₃) (after_letter owners 0 y₁ (slice_get net₅ (n + 2))) (net₅ ++ []) (b.out ++ (packet ∷ []))
+    final : Stage k a e (happens owners (at_gate e (Bring (n + 2) None)) b₅) (put_after (owner_at owners p.from) (owner_at owners p.to) x₃) (after_letter owners 0 y₁ (slice_get net₅ (n + 2))) (net₅ ++ []) (b.out ++ (packet ∷ []))
     final =
-        stage_e owners k a e la le' ne (Bring (n + 2) 0) b₅ _ y₁ _ net₅ b.out (record { sent = None; put = None; out = Some packet }) refl
-        (ap (letter_adds owners 0 y₁) letter₅ ∙ ap (λ r. Some (brought_out packet r)) (ap (λ w. took w 0 y₁) opened ∙ packet-took s_a s_e t y pe pa st_a.table st_e.table sp_e.six old st_a.fell_so clock late nt ny most'))
+        stage_e owners k a e la le' ne (Bring (n + 2) None) b₅ _ y₁ _ net₅ b.out (record { sent = None; put = None; out = Some packet }) refl
+        (ap (letter_adds owners 0 y₁) letter₅ ∙ ap (λ r. Some (brought_out packet r)) (ap (λ w. took w 0 y₁) opened-is ∙ packet-took s_a s_e t y pe pa st_a.table st_e.table sp_e.six old st_a.fell_so clock late nt ny most'))
         st₅

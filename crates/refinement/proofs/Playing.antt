@@ -1,6 +1,7 @@
 -- Many gates and a net: whatever happens is a run of the abstract protocol, and so the promise holds. Assumes nothing.
 use Rattle.std.proofs.Common.{◌≡◌, ℕ, zero, suc, ◌-◌, ◌^◌, ◌<◌, ◌≤◌, Bool, true, false, cond, not, ◌&&◌, ◌||◌, eqb, ltb, leb, ◌⊎◌, List, [], ◌∷◌, ◌++◌, length, get_or, set, Some, None, Ok, Err, Option, Result, sym, refl, ap, ◌∙◌, subst, ap₂, inl, inr, ⊎_elim, slice_get, append_assoc, append-nil, le_of_suc-le-suc, arith, length-set, get_or-set_other, get_or-set_same}
 use mathlib.Core.List.Memᴰ
+use Rattle.std.specs.Prelude.{unwrap_or}
 use Rattle.std.proofs.lemmas.Bool.{cond_both, cond-true, eqb-true, eqb-false, ne_eqb, and_parts, and_from, not-true, not_from_false, or_parts, or_from, ltb-true, ltb-false, lt-ltb, cases_eq}
 use Rattle.protocol.specs.declared.refusals.Refusal.{Refusal}
 use Rattle.gates.specs.Lists.{In, At}
@@ -31,10 +32,11 @@ use Rattle.refinement.specs.declared.state.EventKind.TheVariants.{Tick, Restart,
 use Rattle.refinement.specs.declared.state.Outcome.{Outcome}
 use Rattle.refinement.specs.Relation.{rules_of, Stands}
 use Rattle.refinement.specs.Calls.{Call, Ticks, Says, Sends, Falls, offers, as_code, drawn_of, hearing, does, doing, gone_out, sent_as, put_as, drawn_as, nothing, sent_for, out_for, drew_for, drops_oldest, drops_for}
-use Rattle.refinement.specs.Sea.{owner_in, inner_of, inner_in, sealed_of, Books, letter_of, silent, brought_out, list_of, no_gate, entered, letter_adds, after_letter, entered_if, happens, plays, tag_of, tags_of, backwards, words_of, puts_of, outs_of, Reached, Kept, Plays}
+use Rattle.refinement.specs.Sea.{owner_in, owner_at, inner_of, inner_in, sealed_of, opened, Books, letter_of, silent, brought_out, list_of, no_gate, entered, letter_adds, after_letter, entered_if, happens, plays, tag_of, tags_of, backwards, words_of, puts_of, outs_of, Reached, Kept, Plays}
 use Rattle.refinement.proofs.Asked.{ticks_so, falls_so, says_so, sends_so}
 use Rattle.refinement.proofs.Taking.{owned_ok, talk_tests, hello-none}
 use Rattle.refinement.proofs.Followed.{hears_so}
+use Rattle.refinement.proofs.Owning.{reads_took, reads_after, put_same, put_after_same, numbers_at, reads_opened}
 
 backwards-append : {A : Type 0} (f : Letter → List A) (xs ys : List Letter) → backwards f (xs ++ ys) ≡ backwards f ys ++ backwards f xs
 unfolding backwards
@@ -177,7 +179,7 @@ module _ (k life most : ℕ) (few : k ≤ 32) (fits : most < 2 ^ 32) (owners : L
 
   drops_own : (g : ℕ) (o : Option Talk) → AllOfGate k g (drops_oldest g o)
   drops_own g None = own-none g
-  drops_own g (Some t) = own-one g (Drops g t.mine) refl
+  drops_own g (Some t) = own-one g (Drops g t.tags.mine) refl
 
   hearing_own : (g : ℕ) (p : Peer) (res : Result Taken Refusal) → AllOfGate k g (drops_for g p res)
   hearing_own g p (Ok (Answer w)) = drops_own g (get_or p.talks 2 None)
@@ -209,9 +211,16 @@ module _ (k life most : ℕ) (few : k ≤ 32) (fits : most < 2 ^ 32) (owners : L
   unfolding backwards
   said o s t = record { after_so = refl; sent_so = sent_matches None o; put_so = refl; out_so = refl }
 
-  putted : (p : Parcel) (o : Option Word) (s : Gateway) → Matches (record { after = s; sent = sent_as (inner_of p) o; put = put_as (inner_of p) o; out = []; drew = [] }) s (record { sent = letter_of (Some p) o; put = letter_of (Some p) o; out = None })
+  putted : (p : Parcel) (o u : Option Word) (s v : Gateway) → o ≡ u → s ≡ v →
+      Matches (record { after = s; sent = sent_as (inner_of p) o; put = put_as (inner_of p) o; out = []; drew = [] }) v (record { sent = letter_of (Some p) u; put = letter_of (Some p) u; out = None })
   unfolding backwards
-  putted p o s = record { after_so = refl; sent_so = sent_matches (Some p) o; put_so = put_matches (Some p) o; out_so = refl }
+  putted p o u s v e f =
+      record {
+        after_so = f;
+        sent_so = ap (sent_as (inner_of p)) e ∙ sent_matches (Some p) u;
+        put_so = ap (put_as (inner_of p)) e ∙ put_matches (Some p) u;
+        out_so = refl;
+      }
 
   greet-drew : (t : ℕ) (o : Option Word) → Drew (drawn_as t o) (t ∷ [])
   greet-drew t None = inl refl
@@ -249,9 +258,9 @@ module _ (k life most : ℕ) (few : k ≤ 32) (fits : most < 2 ^ 32) (owners : L
       go : (o : Option Refusal) → answer o Sure ≡ Ok Out → ⊥
       go None h = let z : ◌≡◌ {A = ℕ} 0 1 = cc in omega arith
       go (Some f') h = let z : ◌≡◌ {A = ℕ} 0 1 = cc in omega arith
-  out_for_lem (PacketWord a f m h n y) t s e = go (packet_talk a f m h n (owner_in owners y.from) (owner_in owners y.to) s) refl e
+  out_for_lem (PacketWord a f m h n y) t s e = go (packet_talk a f m h n (Some (owner_in owners y.from)) (Some (owner_in owners y.to)) s) refl e
     where
-      go : (v : Result Talk Refusal) → packet_talk a f m h n (owner_in owners y.from) (owner_in owners y.to) s ≡ v → answered-as Out v ≡ Ok Out → f ≡ s.own
+      go : (v : Result Talk Refusal) → packet_talk a f m h n (Some (owner_in owners y.from)) (Some (owner_in owners y.to)) s ≡ v → answered-as Out v ≡ Ok Out → f ≡ s.own
       go (Err f') q z = absurd (let u : ◌≡◌ {A = ℕ} 0 1 = cc in omega arith)
       go (Ok u) q z =
           let o = (owned_ok k life most few (owner_in owners) _ (found_talk a f m h n s) u q).1 in
@@ -278,7 +287,7 @@ module _ (k life most : ℕ) (few : k ≤ 32) (fits : most < 2 ^ 32) (owners : L
       go : (o : Option Refusal) → answer o Sure ≡ Ok (Answer w) → ⊥
       go None h = let z : ◌≡◌ {A = ℕ} 0 1 = cc in omega arith
       go (Some f') h = let z : ◌≡◌ {A = ℕ} 0 1 = cc in omega arith
-  reply-tag (PacketWord a f m h n y) t s w e = absurd (go (packet_talk a f m h n (owner_in owners y.from) (owner_in owners y.to) s) e)
+  reply-tag (PacketWord a f m h n y) t s w e = absurd (go (packet_talk a f m h n (Some (owner_in owners y.from)) (Some (owner_in owners y.to)) s) e)
     where
       go : (v : Result Talk Refusal) → answered-as Out v ≡ Ok (Answer w) → ⊥
       go (Err f') z = let u : ◌≡◌ {A = ℕ} 0 1 = cc in omega arith
@@ -288,6 +297,10 @@ module _ (k life most : ℕ) (few : k ≤ 32) (fits : most < 2 ^ 32) (owners : L
       go : (v : Result Talk Refusal) → answered-as Alive v ≡ Ok (Answer w) → ⊥
       go (Err f') z = let u : ◌≡◌ {A = ℕ} 0 1 = cc in omega arith
       go (Ok u) z = let q : ◌≡◌ {A = ℕ} 0 1 = cc in omega arith
+
+  -- the tags that are offered with a word that is brought
+  abbrev offered : ℕ → List ℕ
+  offered t = cond (ltb 0 t) (t ∷ []) []
 
   offered_is : (t : ℕ) → drawn_of (cond (ltb 0 t) (t ∷ []) []) ≡ t
   offered_is t = go (ltb 0 t) refl
@@ -302,9 +315,9 @@ module _ (k life most : ℕ) (few : k ≤ 32) (fits : most < 2 ^ 32) (owners : L
   front-new false t rest w n = tt
 
   -- a letter of the net is brought
-  brought : (b : Books) (es : List Ev) (rest : List ℕ) (g t : ℕ) (l : Letter) → Reached k life most (owner_in owners) b es → AllNew (tag_of (Bring 0 t) ++ rest) (world r es) → In l b.net →
+  brought : (b : Books) (es : List Ev) (rest : List ℕ) (g t : ℕ) (l : Letter) → Reached k life most (owner_in owners) b es → AllNew (offered t ++ rest) (world r es) → In l b.net →
       g < k → Stands k life most g (get_or b.gates g no_gate) ((world r es).now g) ((world r es).gates g) →
-      Act g (took_after (as_code (owner_in owners) (sealed_of l)) t (get_or b.gates g no_gate)) (brought_out l (took (as_code (owner_in owners) (sealed_of l)) t (get_or b.gates g no_gate))) (tag_of (Bring 0 t)) es
+      Act g (took_after (as_code (owner_in owners) (sealed_of l)) t (get_or b.gates g no_gate)) (brought_out l (took (as_code (owner_in owners) (sealed_of l)) t (get_or b.gates g no_gate))) (offered t) es
   brought b es rest g t l h n there' less st = (
     hearing (owner_in owners) g x ts s at.0,
     did t,
@@ -321,7 +334,7 @@ module _ (k life most : ℕ) (few : k ≤ 32) (fits : most < 2 ^ 32) (owners : L
       x = sealed_of l
 
       ts : List ℕ
-      ts = cond (ltb 0 t) (t ∷ []) []
+      ts = offered t
 
       s : Gateway
       s = get_or b.gates g no_gate
@@ -345,17 +358,34 @@ module _ (k life most : ℕ) (few : k ≤ 32) (fits : most < 2 ^ 32) (owners : L
   in-place (x ∷ xs) zero l e = Memᴰ.head (cc)
   in-place (x ∷ xs) (suc i) l e = Memᴰ.tail (in-place xs i l e)
 
+  -- a gate of the books has a number that is a gate's
+  own_few : (g : ℕ) (s : Gateway) → g < k → {now : ℕ} {f : worlds.Gate} → Stands k life most g s now f → s.own < 32
+  own_few g s less st = let q = st.own_so in omega arith
+
   -- a letter is brought, if it is there
-  brings : (b : Books) (es : List Ev) (rest : List ℕ) (g i t : ℕ) → Reached k life most (owner_in owners) b es → AllNew (tag_of (Bring i t) ++ rest) (world r es) →
-      Went (happens owners (record { gate = g; kind = Bring i t }) b) es rest
-  brings b es rest g i t h n = go (slice_get b.net i) refl
+  brings : (b : Books) (es : List Ev) (rest : List ℕ) (g i : ℕ) (tag : Option ℕ) → Reached k life most (owner_in owners) b es → AllNew (tag_of (Bring i tag) ++ rest) (world r es) →
+      Went (happens owners (record { gate = g; kind = Bring i tag }) b) es rest
+  brings b es rest g i tag h n = go (slice_get b.net i) refl
     where
+      t : ℕ
+      t = unwrap_or tag 0
+
       s : Gateway
       s = get_or b.gates g no_gate
 
       go : (o : Option Letter) → slice_get b.net i ≡ o → Went (cond (ltb g (length b.gates)) (entered_if g (after_letter owners t s o) (letter_adds owners t s o) b) b) es rest
-      go None e = cond_both (ltb g (length b.gates)) b b (λ z. Went z es rest) (λ _. stayed b es (tag_of (Bring i t)) rest h n) (λ _. stayed b es (tag_of (Bring i t)) rest h n)
-      go (Some l) e = there g _ _ (tag_of (Bring i t)) b es rest h n (brought b es rest g t l h n (in-place b.net i l e))
+      go None e = cond_both (ltb g (length b.gates)) b b (λ z. Went z es rest) (λ _. stayed b es (offered t) rest h n) (λ _. stayed b es (offered t) rest h n)
+      go (Some l) e =
+          there g (took_after (opened owners l) t s) (brought_out l (took (opened owners l) t s)) (offered t) b es rest h n
+          (λ less st.
+          let reads = reads_opened owners l s (own_few g s less st) in
+          subst
+          (λ z. Act g z (brought_out l (took (opened owners l) t s)) (offered t) es)
+          (reads_after s (owner_in owners) (sealed_of l) (opened owners l) t reads)
+          (subst
+          (λ z. Act g (took_after (as_code (owner_in owners) (sealed_of l)) t s) (brought_out l z) (offered t) es)
+          (reads_took s (owner_in owners) (sealed_of l) (opened owners l) t reads)
+          (brought b es rest g t l h n (in-place b.net i l e) less st)))
 
   -- whatever happens
   went : (g : ℕ) (e : EventKind) (b : Books) (es : List Ev) (rest : List ℕ) → Reached k life most (owner_in owners) b es → AllNew (tag_of e ++ rest) (world r es) →
@@ -410,10 +440,10 @@ module _ (k life most : ℕ) (few : k ≤ 32) (fits : most < 2 ^ 32) (owners : L
       ))
   went g (Put p) b es rest h n =
       let s = get_or b.gates g no_gate in
-      let w = gone_out (put (owner_in owners p.from) (owner_in owners p.to) s) in
+      let w = gone_out (put (owner_at owners p.from) (owner_at owners p.to) s) in
       there
       g
-      (put_after (owner_in owners p.from) (owner_in owners p.to) s)
+      (put_after (owner_at owners p.from) (owner_at owners p.to) s)
       (record { sent = letter_of (Some p) w; put = letter_of (Some p) w; out = None })
       []
       b
@@ -421,12 +451,16 @@ module _ (k life most : ℕ) (few : k ≤ 32) (fits : most < 2 ^ 32) (owners : L
       rest
       h
       n
-      (λ less st. (
+      (λ less st.
+      let from = numbers_at owners p.from s (own_few g s less st) in
+      let to = numbers_at owners p.to s (own_few g s less st) in (
         doing g (Sends (inner_of p)) s,
         does (owner_in owners) g (Sends (inner_of p)) s,
         own-one g (Puts g (inner_of p)) refl,
         sends_so k life most fits (owner_in owners) es g (inner_of p) s st,
-        putted p w (put_after (owner_in owners p.from) (owner_in owners p.to) s),
+        putted p _ w _ _
+            (ap gone_out (put_same s (owner_at owners p.from) (owner_at owners p.to) (owner_in owners p.from) (owner_in owners p.to) from to))
+            (put_after_same s (owner_at owners p.from) (owner_at owners p.to) (owner_in owners p.from) (owner_in owners p.to) from to),
         inl refl,
       ))
   went g (Bring i t) b es rest h n = brings b es rest g i t h n

@@ -212,8 +212,8 @@ change_peer e m f keeps (t ∷ ts) d = go (eqb t.mine m) refl (eqb t.with' e) re
     go false s false k rest = cond-false (eqb t.with' e) _ _ k ∙ rest
 
 -- the talk that was found is changed in both
-pub agrees_store : (q : Talk → Bool) (f : Session → Session) (u y : Talk) → y.mine ≡ u.mine → ((t : Session) → SameTalk t u → SameTalk (f t) y) →
-    (ts : List Session) (us : List (Option Talk)) → Agrees ts us → Distinct SameTag ts → first_that q us ≡ Some u → Agrees (change u.mine f ts) (replaced (same_tag y) y us)
+pub agrees_store : (q : Talk → Bool) (f : Session → Session) (u y : Talk) → y.tags.mine ≡ u.tags.mine → ((t : Session) → SameTalk t u → SameTalk (f t) y) →
+    (ts : List Session) (us : List (Option Talk)) → Agrees ts us → Distinct SameTag ts → first_that q us ≡ Some u → Agrees (change u.tags.mine f ts) (replaced (same_tag y) y us)
 unfolding Agrees first_that change replaced Distinct
 agrees_store q f u y same to [] us a d e = absurd (not_same u (sym (vacant_first q us a) ∙ e))
 agrees_store q f u y same to (t ∷ ts) [] a d e = absurd a
@@ -221,29 +221,29 @@ agrees_store q f u y same to (t ∷ ts) (None ∷ us) a d e = absurd a
 agrees_store q f u y same to (t ∷ ts) (Some v ∷ us) a d e = go (q v) refl e (λ k. agrees_store q f u y same to ts us a.1 d.1 k)
   where
     Goal : Type 0
-    Goal = Agrees (cond (eqb t.mine u.mine) (f t ∷ ts) (t ∷ change u.mine f ts)) (cond (eqb v.mine y.mine) (Some y ∷ us) (Some v ∷ replaced (same_tag y) y us))
+    Goal = Agrees (cond (eqb t.mine u.tags.mine) (f t ∷ ts) (t ∷ change u.tags.mine f ts)) (cond (eqb v.tags.mine y.tags.mine) (Some y ∷ us) (Some v ∷ replaced (same_tag y) y us))
 
     hit : v ≡ u → Goal
     hit p =
         subst
-        (λ z. Agrees z (cond (eqb v.mine y.mine) (Some y ∷ us) (Some v ∷ replaced (same_tag y) y us)))
-        (sym (cond-true (eqb t.mine u.mine) _ _ (eq-eqb t.mine u.mine (sym a.0.mine_so ∙ ap (λ (z : Talk). z.mine) p))))
+        (λ z. Agrees z (cond (eqb v.tags.mine y.tags.mine) (Some y ∷ us) (Some v ∷ replaced (same_tag y) y us)))
+        (sym (cond-true (eqb t.mine u.tags.mine) _ _ (eq-eqb t.mine u.tags.mine (sym a.0.mine_so ∙ ap (λ (z : Talk). z.tags.mine) p))))
         (subst
         (λ z. Agrees (f t ∷ ts) z)
-        (sym (cond-true (eqb v.mine y.mine) _ _ (eq-eqb v.mine y.mine (ap (λ (z : Talk). z.mine) p ∙ sym same))))
+        (sym (cond-true (eqb v.tags.mine y.tags.mine) _ _ (eq-eqb v.tags.mine y.tags.mine (ap (λ (z : Talk). z.tags.mine) p ∙ sym same))))
         (to t (subst (SameTalk t) p a.0), a.1))
 
-    miss : (t.mine ≡ u.mine → ⊥) → Agrees (change u.mine f ts) (replaced (same_tag y) y us) → Goal
+    miss : (t.mine ≡ u.tags.mine → ⊥) → Agrees (change u.tags.mine f ts) (replaced (same_tag y) y us) → Goal
     miss ne rest =
         subst
-        (λ z. Agrees z (cond (eqb v.mine y.mine) (Some y ∷ us) (Some v ∷ replaced (same_tag y) y us)))
-        (sym (cond-false (eqb t.mine u.mine) _ _ (ne_eqb t.mine u.mine ne)))
+        (λ z. Agrees z (cond (eqb v.tags.mine y.tags.mine) (Some y ∷ us) (Some v ∷ replaced (same_tag y) y us)))
+        (sym (cond-false (eqb t.mine u.tags.mine) _ _ (ne_eqb t.mine u.tags.mine ne)))
         (subst
-        (λ z. Agrees (t ∷ change u.mine f ts) z)
-        (sym (cond-false (eqb v.mine y.mine) _ _ (ne_eqb v.mine y.mine (λ h. ne (sym a.0.mine_so ∙ (h ∙ same))))))
+        (λ z. Agrees (t ∷ change u.tags.mine f ts) z)
+        (sym (cond-false (eqb v.tags.mine y.tags.mine) _ _ (ne_eqb v.tags.mine y.tags.mine (λ h. ne (sym a.0.mine_so ∙ (h ∙ same))))))
         (a.0, rest))
 
-    go : (b : Bool) → q v ≡ b → cond b (Some v) (first_that q us) ≡ Some u → (first_that q us ≡ Some u → Agrees (change u.mine f ts) (replaced (same_tag y) y us)) → Goal
+    go : (b : Bool) → q v ≡ b → cond b (Some v) (first_that q us) ≡ Some u → (first_that q us ≡ Some u → Agrees (change u.tags.mine f ts) (replaced (same_tag y) y us)) → Goal
     go true s k rest = let p : v ≡ u = cc in hit p
     go false s k rest =
         let z = found_same q ts us u a.1 k in
@@ -301,7 +301,7 @@ without_third t u w m nt nu e =
 
 -- where it is not, they hold all but the talk of the third
 pub agrees_drop : (ts : List Session) (us : List (Option Talk)) (v : Talk) → length us ≡ 3 → get_or us 2 None ≡ Some v → Agrees ts us → Distinct SameTag ts →
-    Agrees (without_talk v.mine ts) (take 2 us)
+    Agrees (without_talk v.tags.mine ts) (take 2 us)
 unfolding Agrees Vacant
 agrees_drop ts [] v l e a d = absurd (omega arith)
 agrees_drop ts (x ∷ []) v l e a d = absurd (omega arith)
@@ -319,12 +319,12 @@ agrees_drop (t ∷ u ∷ []) (Some x ∷ Some y ∷ Some z ∷ []) v l e a d = a
 agrees_drop (t ∷ u ∷ w ∷ ts) (Some x ∷ Some y ∷ Some z ∷ []) v l e a d =
     subst (λ k. Agrees k (Some x ∷ Some y ∷ [])) (sym (left ts a.1.1.1)) (a.0, (a.1.0, tt))
   where
-    third : w.mine ≡ v.mine
-    third = sym a.1.1.0.mine_so ∙ ap (λ (k : Talk). k.mine) (let p : z ≡ v = cc in p)
+    third : w.mine ≡ v.tags.mine
+    third = sym a.1.1.0.mine_so ∙ ap (λ (k : Talk). k.tags.mine) (let p : z ≡ v = cc in p)
 
-    apart : Distinct SameTag (t ∷ u ∷ w ∷ ts) → (t.mine ≡ v.mine → ⊥) × (u.mine ≡ v.mine → ⊥)
-    apart k = apart-three t u w ts v.mine third k
+    apart : Distinct SameTag (t ∷ u ∷ w ∷ ts) → (t.mine ≡ v.tags.mine → ⊥) × (u.mine ≡ v.tags.mine → ⊥)
+    apart k = apart-three t u w ts v.tags.mine third k
 
-    left : (rest : List Session) → Agrees rest [] → without_talk v.mine (t ∷ u ∷ w ∷ rest) ≡ t ∷ u ∷ []
-    left [] k = without_third t u w v.mine (apart d).0 (apart d).1 third
+    left : (rest : List Session) → Agrees rest [] → without_talk v.tags.mine (t ∷ u ∷ w ∷ rest) ≡ t ∷ u ∷ []
+    left [] k = without_third t u w v.tags.mine (apart d).0 (apart d).1 third
     left (k ∷ ks) h = absurd h

@@ -27,11 +27,11 @@ peer_bound e s h =
 -- the abstract talks after the one in the third place was dropped
 abbrev pub dropped : Option Talk → List Session → List Session
 dropped None ts = ts
-dropped (Some v) ts = without_talk v.mine ts
+dropped (Some v) ts = without_talk v.tags.mine ts
 
 dropped_in : (o : Option Talk) (ts : List Session) (t : Session) → In t (dropped o ts) → In t ts
 dropped_in None ts t i = i
-dropped_in (Some v) ts t i = without_talk_lem v.mine ts t i
+dropped_in (Some v) ts t i = without_talk_lem v.tags.mine ts t i
 
 -- the talk in a place stands for one of the abstract gate's
 place_same : (ts : List Session) (us : List (Option Talk)) (i : ℕ) (v : Talk) → get_or us i None ≡ Some v → Agrees ts us → (t : Session) × In t ts × SameTalk t v
@@ -59,7 +59,7 @@ room ts e us a l d = go (get_or us 2 None) refl
   where
     go : (o : Option Talk) → get_or us 2 None ≡ o → Agrees (with_peer e (dropped o ts)) (take 2 us)
     go None s = agrees_two (with_peer e ts) us l s a
-    go (Some v) s = subst (λ z. Agrees z (take 2 us)) (sym (without_peer e v.mine ts)) (agrees_drop (with_peer e ts) us v l s a (distinct_peer e ts d))
+    go (Some v) s = subst (λ z. Agrees z (take 2 us)) (sym (without_peer e v.tags.mine ts)) (agrees_drop (with_peer e ts) us v l s a (distinct_peer e ts d))
 
 -- and those with other gates are as they were
 pub room_others : (ts : List Session) (e j : ℕ) (us : List (Option Talk)) → Agrees (with_peer e ts) us → Distinct SameTag ts → (j ≡ e → ⊥) →
@@ -71,9 +71,9 @@ room_others ts e j us a d ne = go (get_or us 2 None) refl
     go (Some v) s =
         let z = place_same (with_peer e ts) us 2 v s a in
         let zi = peer_in e ts z.0 z.1 in
-        without_peer j v.mine ts ∙
+        without_peer j v.tags.mine ts ∙
         without_absent
-        v.mine
+        v.tags.mine
         (with_peer j ts)
         (λ t i h.
         let ti = peer_in j ts t i in
@@ -211,21 +211,21 @@ module _ (k life most a : ℕ) where
 
   -- The talk with gate e that was found changes, in both.
   pub stands-changed : (s : Gateway) (now : ℕ) (g : Gate) (e : ℕ) (st : Stands k life most a s now g) (pe : is_peer e s ≡ true) (d : Distinct SameTag g.talks)
-      (q : Talk → Bool) (f : Session → Session) (u y : Talk) → first_that q (peer_at e s).talks ≡ Some u → y.mine ≡ u.mine →
+      (q : Talk → Bool) (f : Session → Session) (u y : Talk) → first_that q (peer_at e s).talks ≡ Some u → y.tags.mine ≡ u.tags.mine →
       ((t : Session) → (f t).with' ≡ t.with') → ((t : Session) → SameTalk t u → SameTalk (f t) y) →
-      Stands k life most a (storing e (stored y (peer_at e s)) s) now (with-sessions (change u.mine f g.talks) g)
+      Stands k life most a (storing e (stored y (peer_at e s)) s) now (with-sessions (change u.tags.mine f g.talks) g)
   stands-changed s now g e st pe d q f u y found same keeps to =
       stands_peer
       s
       now
       g
-      (with-sessions (change u.mine f g.talks) g)
+      (with-sessions (change u.tags.mine f g.talks) g)
       e
       (stored y (peer_at e s))
       st
       pe
       (record {
-        talks_so = subst (λ z. Agrees z (replaced (same_tag y) y us)) (sym (change_peer e u.mine f keeps g.talks d)) (agrees_store q f u y same to (with_peer e g.talks) us old.talks_so (distinct_peer e g.talks d) found);
+        talks_so = subst (λ z. Agrees z (replaced (same_tag y) y us)) (sym (change_peer e u.tags.mine f keeps g.talks d)) (agrees_store q f u y same to (with_peer e g.talks) us old.talks_so (distinct_peer e g.talks d) found);
         three = replaced-length (same_tag y) y us ∙ old.three;
         waits_so = old.waits_so;
         six = old.six;
@@ -242,7 +242,7 @@ module _ (k life most a : ℕ) where
         placed = o.placed;
         hello_so = o.hello_so;
       })
-      (changed-known (λ t. is_peer t.with' s ≡ true) u.mine f g.talks (λ t p. subst (λ z. is_peer z s ≡ true) (sym (keeps t)) p) st.known)
+      (changed-known (λ t. is_peer t.with' s ≡ true) u.tags.mine f g.talks (λ t p. subst (λ z. is_peer z s ≡ true) (sym (keeps t)) p) st.known)
     where
       us : List (Option Talk)
       us = (peer_at e s).talks
@@ -250,13 +250,13 @@ module _ (k life most a : ℕ) where
       old : SamePeer now g e (peer_at e s)
       old = st.peers_so e pe
 
-      others : (j : ℕ) → (j ≡ e → ⊥) → with_peer j (change u.mine f g.talks) ≡ with_peer j g.talks
+      others : (j : ℕ) → (j ≡ e → ⊥) → with_peer j (change u.tags.mine f g.talks) ≡ with_peer j g.talks
       others j ne =
           let z = found_same q (with_peer e g.talks) us u old.talks_so found in
           let zi = peer_in e g.talks z.0 z.1 in
-          change_peer j u.mine f keeps g.talks d ∙
+          change_peer j u.tags.mine f keeps g.talks d ∙
           change_absent
-          u.mine
+          u.tags.mine
           f
           (with_peer j g.talks)
           (λ t i h.

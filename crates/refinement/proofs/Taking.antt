@@ -422,8 +422,8 @@ module _ (k life most : ℕ) (few : k ≤ 32) (owner : ℕ → ℕ) where
       named : names h m u ≡ true
       named = (found_same (names h m) (with_peer by ((world r es).gates a).talks) (peer_at by s).talks u (st.peers_so by pe).talks_so found).3
 
-      mine-is : u.mine ≡ h
-      mine-is = eqb-true u.mine h (and_parts (eqb u.mine h) (eqb u.theirs m) named).0
+      mine-is : u.tags.mine ≡ h
+      mine-is = eqb-true u.tags.mine h (and_parts (eqb u.tags.mine h) (eqb u.tags.theirs m) named).0
 
       same : (t : Session) → SameTalk t u → SameTalk (came n t) (heard_one n u)
       same t q =
@@ -438,7 +438,7 @@ module _ (k life most : ℕ) (few : k ≤ 32) (owner : ℕ → ℕ) where
 
   -- a number comes in the abstract gate exactly if the code finds its talk
   comes_as : (es : List Ev) (a by m h n : ℕ) (s : Gateway) → Stands k life most a s ((world r es).now a) ((world r es).gates a) → is_peer by s ≡ true →
-      comes_in r ((world r es).now a) by h m n ((world r es).gates a).talks ≡ is_ok (found_in s.now s.life n (first_that (names h m) (peer_at by s).talks))
+      comes_in r ((world r es).now a) by h m n ((world r es).gates a).talks ≡ is_ok (found_in s.now s.terms.life n (first_that (names h m) (peer_at by s).talks))
   comes_as es a by m h n s st pe =
       comes_both life most owner ((world r es).now a) by h m n ((world r es).gates a).talks (peer_at by s).talks (st.peers_so by pe).talks_so ∙
       ap₂ (λ x y. is_ok (found_in x y n (first_that (names h m) (peer_at by s).talks))) (sym st.now_so) (sym st.life_so)
@@ -452,9 +452,9 @@ module _ (k life most : ℕ) (few : k ≤ 32) (owner : ℕ → ℕ) where
   same_ok : {A : Type 0} (x y : A) → ◌≡◌ {A = Result A Refusal} (Ok x) (Ok y) → x ≡ y
   same_ok x y e = cc
 
-  found_talk_lem : (a by f m h n : ℕ) (s : Gateway) (u : Talk) → s.life ≡ life → found_talk by f m h n s ≡ Ok u → Finds' by m h n s u × (eqb f s.own ≡ true)
+  found_talk_lem : (a by f m h n : ℕ) (s : Gateway) (u : Talk) → s.terms.life ≡ life → found_talk by f m h n s ≡ Ok u → Finds' by m h n s u × (eqb f s.own ≡ true)
   found_talk_lem a by f m h n s u life-is e =
-      let t = talk_tests (is_peer by s && eqb f s.own) (eqb m 0 || eqb h 0) (found_in s.now s.life n (first_that (names h m) (peer_at by s).talks)) u e in
+      let t = talk_tests (is_peer by s && eqb f s.own) (eqb m 0 || eqb h 0) (found_in s.now s.terms.life n (first_that (names h m) (peer_at by s).talks)) u e in
       let b = and_parts (is_peer by s) (eqb f s.own) t.0 in
       let v : found_in s.now life n (first_that (names h m) (peer_at by s).talks) ≡ Ok u = ap (λ z. found_in s.now z n (first_that (names h m) (peer_at by s).talks)) (sym life-is) ∙ t.2 in
       let o = found_ok s.now n (first_that (names h m) (peer_at by s).talks) (ap is_ok v) in
@@ -481,7 +481,7 @@ module _ (k life most : ℕ) (few : k ≤ 32) (owner : ℕ → ℕ) where
   lets_come : (es : List Ev) (a by f m h n : ℕ) (s : Gateway) (u : Talk) → Stands k life most a s ((world r es).now a) ((world r es).gates a) → found_talk by f m h n s ≡ Ok u →
       (eqb f a ≡ true) × (comes_in r ((world r es).now a) by h m n ((world r es).gates a).talks ≡ true)
   lets_come es a by f m h n s u st e =
-      let t = talk_tests (is_peer by s && eqb f s.own) (eqb m 0 || eqb h 0) (found_in s.now s.life n (first_that (names h m) (peer_at by s).talks)) u e in
+      let t = talk_tests (is_peer by s && eqb f s.own) (eqb m 0 || eqb h 0) (found_in s.now s.terms.life n (first_that (names h m) (peer_at by s).talks)) u e in
       let b = and_parts (is_peer by s) (eqb f s.own) t.0 in
       (ap (λ z. eqb f z) (sym st.own_so) ∙ b.1, comes_as es a by m h n s st b.0 ∙ ap is_ok t.2)
 
@@ -550,7 +550,7 @@ module _ (k life most : ℕ) (few : k ≤ 32) (owner : ℕ → ℕ) where
       At i (PacketWord by f m h n y) (world r es).net →
       Follows (Stands k life most a) a (world r es) (world r (calls.hearing owner a (PacketWord by f m h n y) ts s i ++ es)) (calls.hears owner a (PacketWord by f m h n y) ts s)
   unfolding world
-  packet_so es a by f m h n y ts s i below st p = go (packet_talk by f m h n (owner y.from) (owner y.to) s) refl
+  packet_so es a by f m h n y ts s i below st p = go (packet_talk by f m h n (Some (owner y.from)) (Some (owner y.to)) s) refl
     where
       w : World
       w = world r es
@@ -577,7 +577,7 @@ module _ (k life most : ℕ) (few : k ≤ 32) (owner : ℕ → ℕ) where
             drew = drew_for drawn (answered-as Out v);
           }
 
-      go : (v : Result Talk Refusal) → packet_talk by f m h n (owner y.from) (owner y.to) s ≡ v →
+      go : (v : Result Talk Refusal) → packet_talk by f m h n (Some (owner y.from)) (Some (owner y.to)) s ≡ v →
           Follows (Stands k life most a) a w (world r ((Brings a i drawn ∷ drops_for a (peer_at by s) (answered-as Out v)) ++ es)) (did v)
       go (Err e) q = refused es a i drawn x s st p (off (takes r a drawn x w) refl)
         where
@@ -587,7 +587,7 @@ module _ (k life most : ℕ) (few : k ≤ 32) (owner : ℕ → ℕ) where
               let c = and_parts (comes_in r (w.now a) by h m n (w.gates a).talks) (eqb (owner y.from) by && eqb (owner y.to) a) u.1 in
               let z = finds_talk es a by f m h n x s refl refl kn ((proper r es).no_zero x kn.here) st (eqb-true f a u.0) c.0 in
               let own : owned s.own ≡ true = subst (λ k'. owned k' ≡ true) (sym st.own_so) c.1 in
-              let all : packet_talk by f m h n (owner y.from) (owner y.to) s ≡ Ok z.0 = ap₂ if_owned own z.1 in
+              let all : packet_talk by f m h n (Some (owner y.from)) (Some (owner y.to)) s ≡ Ok z.0 = ap₂ if_owned own z.1 in
               absurd (not-ok e z.0 (sym q ∙ all))
           off false t = t
       go (Ok u) q =

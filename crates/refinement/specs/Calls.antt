@@ -1,6 +1,6 @@
 -- Which events of the abstract protocol each call of a gate's code is, and what it adds to the net, to what was put in and came out, and to the drawn tags.
 -- Assumes nothing.
-use Rattle.std.specs.Prelude.{ℕ, ◌-◌, ◌^◌, cond, List, [], ◌∷◌, Some, None, Ok, Err, Option, Result, nat_lt, slice_index_or}
+use Rattle.std.specs.Prelude.{◌≡◌, ◌≢◌, ℕ, ◌-◌, ◌^◌, false, cond, List, [], ◌∷◌, Some, None, Ok, Err, Option, Result, nat_lt, slice_index_or}
 use Rattle.protocol.specs.declared.refusals.Refusal.{Refusal}
 use Rattle.gates.specs.Talk.{Inner}
 use Rattle.gates.specs.World.{Note, Ev, Tick, Greets, Puts, Brings, Restarts, Drops, note}
@@ -10,11 +10,12 @@ use Rattle.gates.specs.Code.{Did}
 use Rattle.gateway.specs.declared.state.Talk.{Talk}
 use Rattle.gateway.specs.declared.state.Peer.{Peer}
 use Rattle.gateway.specs.declared.state.Gateway.{Gateway}
+use Rattle.gateway.specs.declared.state.Owners.{Owners}
 use Rattle.gateway.specs.declared.state.Word.{Word}
 use Rattle.gateway.specs.declared.state.Word.TheVariants.{Hello, Reply, Packet, Empty}
 use Rattle.gateway.specs.declared.state.Taken.{Taken}
 use Rattle.gateway.specs.declared.state.Taken.TheVariants.{Answer, Sure, Out, Alive}
-use Rattle.gateway.specs.Steps.{peer_at, took, took_after, put, put_after, may_greet, greet, greet_after, ticked, restarted}
+use Rattle.gateway.specs.Steps.{in_talk, between, is_peer, peer_at, took, took_after, put, put_after, may_greet, greet, greet_after, ticked, restarted}
 
 -- What the owner of a gate can ask of it.
 pub data Call : Type 0 where
@@ -43,15 +44,27 @@ drawn_of (t ∷ ts) = t
 abbrev pub as_code : (ℕ → ℕ) → Sealed → Word
 as_code owner (HelloWord a e t n) = Hello a e t n
 as_code owner (ReplyWord a e t k) = Reply a e t k
-as_code owner (PacketWord a e m h n x) = Packet a e m h n (owner x.from) (owner x.to)
-as_code owner (EmptyWord a e m h n) = Empty a e m h n
+as_code owner (PacketWord a e m h n x) = Packet (in_talk a e m h n) (between (Some (owner x.from)) (Some (owner x.to)))
+as_code owner (EmptyWord a e m h n) = Empty (in_talk a e m h n)
+
+-- The abstract protocol's number for an owner that the code may know: nobody's is any number that is no gate's.
+abbrev pub Numbers : Gateway → Option ℕ → ℕ → Type 0
+Numbers s (Some g) n = n ≡ g
+Numbers s None n = (n ≢ s.own) × (is_peer n s ≡ false)
+
+-- This word is what the code has for a word of the abstract protocol: of a packet, as far as the owners of its addresses are known.
+abbrev pub ReadsAs : Gateway → (ℕ → ℕ) → Sealed → Word → Type 0
+ReadsAs s owner (HelloWord a e t n) w = Hello a e t n ≡ w
+ReadsAs s owner (ReplyWord a e t k) w = Reply a e t k ≡ w
+ReadsAs s owner (PacketWord a e m h n x) w = (o : Owners) × (Packet (in_talk a e m h n) o ≡ w) × Numbers s o.source (owner x.from) × Numbers s o.goal (owner x.to)
+ReadsAs s owner (EmptyWord a e m h n) w = Empty (in_talk a e m h n) ≡ w
 
 -- A word of the code's, which may carry a packet, as a word of the abstract protocol.
 abbrev pub as_word : Inner → Word → Sealed
 as_word x (Hello a e t n) = HelloWord a e t n
 as_word x (Reply a e t k) = ReplyWord a e t k
-as_word x (Packet a e m h n source goal) = PacketWord a e m h n x
-as_word x (Empty a e m h n) = EmptyWord a e m h n
+as_word x (Packet p o) = PacketWord p.by p.to p.tags.mine p.tags.theirs p.number x
+as_word x (Empty p) = EmptyWord p.by p.to p.tags.mine p.tags.theirs p.number
 
 -- what stands for the packet of a word that carries none
 abbrev pub nothing : Inner
@@ -84,7 +97,7 @@ out_for a x (Err f) = []
 -- the oldest of three talks is dropped, if there are three
 abbrev pub drops_oldest : ℕ → Option Talk → List Ev
 drops_oldest a None = []
-drops_oldest a (Some t) = Drops a t.mine ∷ []
+drops_oldest a (Some t) = Drops a t.tags.mine ∷ []
 
 -- where a hello or a reply is taken, the oldest of three talks with its maker is dropped
 abbrev pub drops_for : ℕ → Peer → Result Taken Refusal → List Ev
@@ -104,8 +117,8 @@ abbrev pub put_as : Inner → Option Word → List Note
 put_as x None = []
 put_as x (Some (Hello a e t n)) = []
 put_as x (Some (Reply a e t k)) = []
-put_as x (Some (Packet a e m h n source goal)) = note a e m h n x ∷ []
-put_as x (Some (Empty a e m h n)) = []
+put_as x (Some (Packet p o)) = note p.by p.to p.tags.mine p.tags.theirs p.number x ∷ []
+put_as x (Some (Empty p)) = []
 
 -- the answer to a packet that was put in
 abbrev pub gone_out : Result (Option Word) Refusal → Option Word
@@ -140,9 +153,9 @@ module _ (owner : ℕ → ℕ) where
       record { after = greet_after e t s; sent = sent_as nothing (greet e t s); put = []; out = []; drew = drawn_as t (greet e t s) }
   does a (Sends x) s =
       record {
-        after = put_after (owner x.from) (owner x.to) s;
-        sent = sent_as x (gone_out (put (owner x.from) (owner x.to) s));
-        put = put_as x (gone_out (put (owner x.from) (owner x.to) s));
+        after = put_after (Some (owner x.from)) (Some (owner x.to)) s;
+        sent = sent_as x (gone_out (put (Some (owner x.from)) (Some (owner x.to)) s));
+        put = put_as x (gone_out (put (Some (owner x.from)) (Some (owner x.to)) s));
         out = [];
         drew = [];
       }

@@ -25,8 +25,8 @@ with_peer e (t ∷ ts) = cond (t.with' == e) (t ∷ with_peer e ts) (with_peer e
 
 -- A talk in memory stands for an abstract one: the same tags and numbers, and its window shows what came.
 pub record SameTalk (t : Session) (u : Talk) : Type 0 where
-  pub mine_so : u.mine ≡ t.mine
-  pub theirs_so : u.theirs ≡ t.theirs
+  pub mine_so : u.tags.mine ≡ t.mine
+  pub theirs_so : u.tags.theirs ≡ t.theirs
   pub born_so : u.born ≡ t.born
   pub sent_so : u.sent ≡ t.sent
   pub sure_so : u.sure ≡ t.sure
@@ -58,8 +58,8 @@ pub record SamePeer (now : ℕ) (g : Gate) (e : ℕ) (p : Peer) : Type 0 where
 pub record Stands (k life most a : ℕ) (s : Gateway) (now : ℕ) (g : Gate) : Type 0 where
   pub own_so : s.own ≡ a
   pub gates_so : s.gates ≡ k
-  pub life_so : s.life ≡ life
-  pub most_so : s.most ≡ most
+  pub life_so : s.terms.life ≡ life
+  pub most_so : s.terms.most ≡ most
   pub now_so : s.now ≡ now
   pub clock : s.now < 2 ^ 64
   pub fell_so : s.fell ≤ s.now

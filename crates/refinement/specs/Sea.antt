@@ -1,5 +1,5 @@
 -- Many gates that run the code, and a net that keeps every word and brings any of them to anybody; and what is promised of them. Assumes nothing.
-use Rattle.std.specs.Prelude.{◌≡◌, ℕ, ◌+◌, ◌-◌, ◌^◌, ◌<◌, ◌≤◌, Bool, true, false, cond, List, [], ◌∷◌, ◌++◌, map, length, get_or, Some, None, Ok, Err, vec_items, Option, Result, ◌≢◌, nat_lt, option_map, slice_get, slice_index_or, slice_set}
+use Rattle.std.specs.Prelude.{◌≡◌, ℕ, ◌+◌, ◌-◌, ◌^◌, ◌<◌, ◌≤◌, Bool, true, false, cond, List, [], ◌∷◌, ◌++◌, map, length, get_or, Some, None, Ok, Err, vec_items, Option, Result, ◌≢◌, nat_lt, option_map, unwrap_or, slice_get, slice_index_or, slice_set}
 use Rattle.std.specs.List.{range_with_len}
 use Rattle.protocol.specs.declared.refusals.Refusal.{Refusal}
 use Rattle.gates.specs.Lists.{In, At}
@@ -10,11 +10,12 @@ use Rattle.gates.specs.World as worlds
 use Rattle.gates.specs.Promise.{Whole, GreetsBelow, lied, mirror, note_of, for_of}
 use Rattle.gates.specs.Code.{AllNew}
 use Rattle.gateway.specs.declared.state.Gateway.{Gateway}
+use Rattle.gateway.specs.declared.state.Owners.{Owners}
 use Rattle.gateway.specs.declared.state.Word.{Word}
-use Rattle.gateway.specs.declared.state.Word.TheVariants.{Packet}
+use Rattle.gateway.specs.declared.state.Word.TheVariants.{Hello, Reply, Packet, Empty}
 use Rattle.gateway.specs.declared.state.Taken.{Taken}
 use Rattle.gateway.specs.declared.state.Taken.TheVariants.{Answer, Sure, Out, Alive}
-use Rattle.gateway.specs.Steps.{fresh, took, took_after, put, put_after, greet, greet_after, ticked, restarted}
+use Rattle.gateway.specs.Steps.{in_talk, between, fresh, took, took_after, put, put_after, greet, greet_after, ticked, restarted}
 use Rattle.refinement.specs.declared.state.Parcel.{Parcel}
 use Rattle.refinement.specs.declared.state.Letter.{Letter}
 use Rattle.refinement.specs.declared.state.Event.{Event}
@@ -23,11 +24,19 @@ use Rattle.refinement.specs.declared.state.EventKind.TheVariants.{Tick, Restart,
 use Rattle.refinement.specs.declared.state.Outcome.{Outcome}
 use Rattle.refinement.specs.declared.state.Sea.{Sea}
 use Rattle.refinement.specs.Relation.{rules_of, Stands}
-use Rattle.refinement.specs.Calls.{as_code, as_word, nothing, gone_out, put_as}
+use Rattle.refinement.specs.Calls.{as_word, nothing, gone_out, put_as}
 
 -- Who owns an address: a table by address; what it lacks is nobody's.
 abbrev pub owner_in : List ℕ → ℕ → ℕ
 owner_in owners x = slice_index_or owners x 255
+
+-- the same as the code has it: none where the table lacks the address
+abbrev pub owner_at : List ℕ → ℕ → Option ℕ
+owner_at owners x = slice_get owners x
+
+-- who owns a packet's addresses
+abbrev pub owners_of : List ℕ → Inner → Owners
+owners_of owners x = between (owner_at owners x.from) (owner_at owners x.to)
 
 abbrev pub inner_of : Parcel → Inner
 inner_of p = record { from = p.from; to = p.to; what = p.what ∷ [] }
@@ -40,6 +49,17 @@ inner_in (Some p) = inner_of p
 -- A letter as a word of the abstract protocol.
 abbrev pub sealed_of : Letter → Sealed
 sealed_of l = as_word (inner_in l.parcel) l.word
+
+-- a word with other owners of its addresses, if it is a packet's
+abbrev pub with_owners : Owners → Word → Word
+with_owners o (Hello a e t n) = Hello a e t n
+with_owners o (Reply a e t k) = Reply a e t k
+with_owners o (Packet p q) = Packet p o
+with_owners o (Empty p) = Empty p
+
+-- The word that a gate takes a letter for: of a packet, with the owners of its addresses.
+abbrev pub opened : List ℕ → Letter → Word
+opened owners l = with_owners (owners_of owners (inner_in l.parcel)) l.word
 
 -- The gates' memories, all words ever made, and all that was put in and came out, the earliest first.
 pub record Books : Type 0 where
@@ -69,7 +89,7 @@ list_of (Some l) = l ∷ []
 
 -- what is read past the last gate
 abbrev pub no_gate : Gateway
-no_gate = record { own = 0; gates = 0; life = 0; most = 0; now = 0; fell = 0; peers = [] }
+no_gate = record { own = 0; gates = 0; terms = record { life = 0; most = 0 }; now = 0; fell = 0; peers = [] }
 
 -- gate g did this
 abbrev pub entered : (g : ℕ) → Gateway → Outcome → Books → Books
@@ -84,18 +104,18 @@ entered_if g s (Some o) b = entered g s o b
 -- A letter that is brought, if it is there: what it leaves in the gate's memory, and what it adds.
 abbrev pub after_letter : List ℕ → (tag : ℕ) → Gateway → Option Letter → Gateway
 after_letter owners t s None = s
-after_letter owners t s (Some l) = took_after (as_code (owner_in owners) (sealed_of l)) t s
+after_letter owners t s (Some l) = took_after (opened owners l) t s
 
 abbrev pub letter_adds : List ℕ → (tag : ℕ) → Gateway → Option Letter → Option Outcome
-letter_adds owners t s o = option_map (λ l. brought_out l (took (as_code (owner_in owners) (sealed_of l)) t s)) o
+letter_adds owners t s o = option_map (λ l. brought_out l (took (opened owners l) t s)) o
 
 -- WHAT AN EVENT DOES to its gate, by the definitions that the gate's contracts cite. The letter that it brings is the one at its place of the net.
 abbrev pub after_of : List ℕ → List Letter → EventKind → Gateway → Gateway
 after_of owners net Tick s = ticked s
 after_of owners net Restart s = restarted s
 after_of owners net (Greet e t) s = greet_after e t s
-after_of owners net (Put p) s = put_after (owner_in owners p.from) (owner_in owners p.to) s
-after_of owners net (Bring i t) s = after_letter owners t s (slice_get net i)
+after_of owners net (Put p) s = put_after (owner_at owners p.from) (owner_at owners p.to) s
+after_of owners net (Bring i t) s = after_letter owners (unwrap_or t 0) s (slice_get net i)
 
 -- WHAT IT ADDS; none where the letter that it brings is not there, and then nothing happens.
 abbrev pub outcome_of : List ℕ → List Letter → EventKind → Gateway → Option Outcome
@@ -104,11 +124,11 @@ outcome_of owners net Restart s = Some silent
 outcome_of owners net (Greet e t) s = Some (record { sent = letter_of None (greet e t s); put = None; out = None })
 outcome_of owners net (Put p) s =
     Some (record {
-      sent = letter_of (Some p) (gone_out (put (owner_in owners p.from) (owner_in owners p.to) s));
-      put = letter_of (Some p) (gone_out (put (owner_in owners p.from) (owner_in owners p.to) s));
+      sent = letter_of (Some p) (gone_out (put (owner_at owners p.from) (owner_at owners p.to) s));
+      put = letter_of (Some p) (gone_out (put (owner_at owners p.from) (owner_at owners p.to) s));
       out = None;
     })
-outcome_of owners net (Bring i t) s = letter_adds owners t s (slice_get net i)
+outcome_of owners net (Bring i t) s = letter_adds owners (unwrap_or t 0) s (slice_get net i)
 
 -- what an event of this kind does at gate g, whose memory is s
 abbrev pub happens_at : List ℕ → (g : ℕ) → EventKind → Gateway → Books → Books
@@ -134,7 +154,7 @@ tag_of Tick = []
 tag_of Restart = []
 tag_of (Greet e t) = t ∷ []
 tag_of (Put p) = []
-tag_of (Bring i t) = cond (nat_lt 0 t) (t ∷ []) []
+tag_of (Bring i t) = cond (nat_lt 0 (unwrap_or t 0)) (unwrap_or t 0 ∷ []) []
 
 unfoldable pub tags_of : List Event → List ℕ
 tags_of [] = []
@@ -196,11 +216,11 @@ at_gate g e = record { gate = g; kind = e }
 -- were made before.
 abbrev pub opening : (a e t y n : ℕ) → Parcel → List Event
 opening a e t y n p =
-    at_gate a Tick ∷ at_gate a (Greet e t) ∷ at_gate e (Bring n y) ∷ at_gate a (Bring (n + 1) 0) ∷ at_gate a (Put p) ∷ at_gate e (Bring (n + 2) 0) ∷ []
+    at_gate a Tick ∷ at_gate a (Greet e t) ∷ at_gate e (Bring n (Some y)) ∷ at_gate a (Bring (n + 1) None) ∷ at_gate a (Put p) ∷ at_gate e (Bring (n + 2) None) ∷ []
 
 -- IT ALWAYS CAN: from books of any run, whatever the net did before, that lets p out at e, once; each word that is brought is one that was made on the way.
 unfoldable pub CanOpen : Type 0
 CanOpen =
     (owners : List ℕ) (k life most : ℕ) (es : List Ev) (b : Books) (a e t y : ℕ) (p : Parcel) → k ≤ 32 → 0 < most → most < 2 ^ 32 → Reached k life most (owner_in owners) b es →
     a < k → e < k → (a ≢ e) → owner_in owners p.from ≡ a → owner_in owners p.to ≡ e → (get_or b.gates a no_gate).now < 2 ^ 64 - 1 → 0 < t → 0 < y →
-    (plays owners (opening a e t y (length b.net) p) b).out ≡ b.out ++ (record { word = Packet a e t y 1 a e; parcel = Some p } ∷ [])
+    (plays owners (opening a e t y (length b.net) p) b).out ≡ b.out ++ (record { word = Packet (in_talk a e t y 1) (between (Some a) (Some e)); parcel = Some p } ∷ [])

@@ -1,49 +1,43 @@
 // What an event does to its gate, and what it adds to the books. Assumes nothing.
-ghost use Rattle.std.specs.Prelude.{◌≡◌};
-ghost use Rattle.refinement.specs.Calls.{as_code, gone_out};
-ghost use Rattle.refinement.specs.Sea.{owner_in, sealed_of, letter_of, silent, brought_out, after_of, outcome_of};
+ghost use Rattle.std.specs.Prelude.{◌≡◌, Some, None, unwrap_or};
 ghost use Rattle.gateway.specs.Steps.{took_after, put_after};
 ghost use Rattle.gateway.specs.Steps.{took as took_answer, put as put_answer};
+ghost use Rattle.refinement.specs.Calls.{gone_out};
+ghost use Rattle.refinement.specs.Sea.{owner_at, owners_of, inner_of, opened, letter_of, brought_out, after_of, outcome_of};
 
 use crate::calls::{greet, put, restart, take, tick};
 use crate::state::{EventKind, Letter, Outcome, Parcel};
-use gateway::{Gateway, Taken, Word};
-
-/// What stands for the owner of an address that is nobody's.
-const NOBODY: u8 = 255;
+use gateway::{Gateway, Owners, Taken, Word};
 
 /// Who owns an address, by a table; what it lacks is nobody's.
-fn owner_of(owners: &[u8], address: u32) -> u8
-    ensures { result ≡ owner_in owners.now address }
+fn owner_of(owners: &[u8], address: u32) -> Option<u8>
+    ensures { result ≡ owner_at owners.now address }
 {
-    owners.get(address as usize).copied().unwrap_or(NOBODY)
+    owners.get(address as usize).copied()
+}
+
+impl Parcel {
+    /// Who owns its addresses.
+    fn owners(self, owners: &[u8]) -> Owners
+        ensures { result ≡ owners_of owners.now (inner_of self) }
+    {
+        Owners {
+            source: owner_of(owners, self.from),
+            goal: owner_of(owners, self.to),
+        }
+    }
 }
 
 impl Letter {
     /// The word that a gate takes it for: of a packet, with the owners of its addresses.
     fn opened(self, owners: &[u8]) -> Word
-        ensures { result ≡ as_code (owner_in owners.now) (sealed_of self) }
+        ensures { result ≡ opened owners.now self }
     {
         match self.word {
-            Word::Packet {
-                by,
-                to,
-                by_tag,
-                to_tag,
-                number,
-                ..
-            } => {
-                let parcel = self.parcel.unwrap_or_default();
-                Word::Packet {
-                    by,
-                    to,
-                    by_tag,
-                    to_tag,
-                    number,
-                    source: owner_of(owners, parcel.from),
-                    goal: owner_of(owners, parcel.to),
-                }
-            }
+            Word::Packet { place, .. } => Word::Packet {
+                place,
+                owners: self.parcel.unwrap_or_default().owners(owners),
+            },
             other => other,
         }
     }
@@ -58,19 +52,17 @@ fn letter_of(parcel: Option<Parcel>, word: Option<Word>) -> Option<Letter>
 
 /// A packet is put in at a gate. Answers the letter that it goes out in.
 fn send(memory: &mut Gateway, owners: &[u8], parcel: Parcel) -> Option<Letter>
-    ensures after { memory.new ≡ put_after (owner_in owners.now parcel.from) (owner_in owners.now parcel.to) memory.old }
-    ensures sent { result ≡ letter_of (Some parcel) (gone_out (put_answer (owner_in owners.now parcel.from) (owner_in owners.now parcel.to) memory.old)) }
+    ensures after { memory.new ≡ put_after (owner_at owners.now parcel.from) (owner_at owners.now parcel.to) memory.old }
+    ensures sent { result ≡ letter_of (Some parcel) (gone_out (put_answer (owner_at owners.now parcel.from) (owner_at owners.now parcel.to) memory.old)) }
 {
-    let source = owner_of(owners, parcel.from);
-    let goal = owner_of(owners, parcel.to);
-    let word = put(memory, source, goal).ok().flatten();
+    let word = put(memory, parcel.owners(owners)).ok().flatten();
     letter_of(Some(parcel), word)
 }
 
 /// A letter is brought to a gate.
-fn bring(memory: &mut Gateway, owners: &[u8], letter: Letter, tag: u64) -> Outcome
-    ensures after { memory.new ≡ took_after (as_code (owner_in owners.now) (sealed_of letter)) tag memory.old }
-    ensures adds { result ≡ brought_out letter (took_answer (as_code (owner_in owners.now) (sealed_of letter)) tag memory.old) }
+fn bring(memory: &mut Gateway, owners: &[u8], letter: Letter, tag: Option<u64>) -> Outcome
+    ensures after { memory.new ≡ took_after (opened owners.now letter) (unwrap_or tag 0) memory.old }
+    ensures adds { result ≡ brought_out letter (took_answer (opened owners.now letter) (unwrap_or tag 0) memory.old) }
 {
     match take(memory, letter.opened(owners), tag) {
         Ok(Taken::Answer(word)) => Outcome {

@@ -1,5 +1,5 @@
 // The public calls of a gate, each with the events of the abstract protocol that it is. Assumes nothing.
-ghost use Rattle.std.specs.Prelude.{◌≡◌, ℕ, ◌^◌, ◌<◌};
+ghost use Rattle.std.specs.Prelude.{◌≡◌, ℕ, ◌^◌, ◌<◌, unwrap_or};
 ghost use Rattle.gates.specs.World.{empty_gate};
 ghost use Rattle.gateway.specs.Steps.{fresh, took, took_after, greet_after, put_after, ticked, restarted};
 ghost use Rattle.gateway.specs.Steps.{put as put_answer, greet as greet_answer};
@@ -7,35 +7,35 @@ ghost use Rattle.refinement.specs.Relation.{Stands};
 ghost use Rattle.refinement.specs.Term.{AsAsked};
 ghost use Rattle.refinement.specs.Steps.{TakeFollows, PutFollows, GreetFollows, TickFollows, RestartFollows};
 
-use gateway::{Gateway, Taken, Word};
+use gateway::{Gateway, Owners, Taken, Terms, Word};
 use protocol::Refusal;
 
-/// A gate that was just made: its number, how many gates there are, and for how many ticks and numbers a talk is good.
-pub fn start(own: u8, gates: u8, life: u16, most: u32) -> Gateway
-    ensures value { result ≡ fresh own gates life most }
-    ensures stands { Stands gates life most own result 1 empty_gate }
+/// A gate that was just made: its number, how many gates there are, and for how long a talk is good.
+pub fn start(own: u8, gates: u8, terms: Terms) -> Gateway
+    ensures value { result ≡ fresh own gates terms.life terms.most }
+    ensures stands { Stands gates terms.life terms.most own result 1 empty_gate }
 {
-    Gateway::new(own, gates, life, most)
+    Gateway::new(own, gates, terms)
 }
 
-/// A word is brought from outside, with a tag drawn for a reply, 0 where there is none. A refusal changes nothing.
+/// A word is brought from outside, with a tag drawn for a reply, if one was; 0 is none. A refusal changes nothing.
 #[tactic(auto, using(crate::proofs::Followed::take_follows))]
-pub fn take(gate: &mut Gateway, word: Word, drawn: u64) -> Result<Taken, Refusal>
-    ensures answer { result ≡ took word drawn gate.old }
-    ensures after { gate.new ≡ took_after word drawn gate.old }
-    ensures follows { TakeFollows word drawn gate.old result gate.new }
+pub fn take(gate: &mut Gateway, word: Word, drawn: Option<u64>) -> Result<Taken, Refusal>
+    ensures answer { result ≡ took word (unwrap_or drawn 0) gate.old }
+    ensures after { gate.new ≡ took_after word (unwrap_or drawn 0) gate.old }
+    ensures follows { TakeFollows word (unwrap_or drawn 0) gate.old result gate.new }
 {
     gate.take(word, drawn)
 }
 
 /// A packet is put in, by the owners of its source and its destination. A refusal changes nothing.
 #[tactic(auto, using(crate::proofs::Followed::put_follows))]
-pub fn put(gate: &mut Gateway, source: u8, goal: u8) -> Result<Option<Word>, Refusal>
-    ensures answer { result ≡ put_answer source goal gate.old }
-    ensures after { gate.new ≡ put_after source goal gate.old }
-    ensures follows { PutFollows source goal gate.old result gate.new }
+pub fn put(gate: &mut Gateway, owners: Owners) -> Result<Option<Word>, Refusal>
+    ensures answer { result ≡ put_answer owners.source owners.goal gate.old }
+    ensures after { gate.new ≡ put_after owners.source owners.goal gate.old }
+    ensures follows { PutFollows owners.source owners.goal gate.old result gate.new }
 {
-    gate.put(source, goal)
+    gate.put(owners)
 }
 
 /// Makes a hello to a gate under a drawn tag, if one can be made; else nothing is changed.

@@ -5,7 +5,7 @@ ghost use Rattle.refinement.specs.Sea.{list_of, entered, happens, plays, Plays, 
 use crate::acts::act;
 use crate::calls::start;
 use crate::state::{Event, Letter, Outcome, Sea};
-use gateway::Gateway;
+use gateway::{Gateway, Terms};
 use std::alloc::{AllocError, Global};
 
 /// Adds a letter, if there is one, where there is room for it.
@@ -19,22 +19,22 @@ fn note(list: &mut Vec<Letter>, letter: Option<Letter>)
 }
 
 /// Gates that were just made, by their numbers.
-fn made(heap: Global, gates: u8, life: u16, most: u32) -> Result<Vec<Gateway>, AllocError>
-    ensures { IfOk result (λ v. v.items ≡ new_gates gates life most gates) }
+fn made(heap: Global, gates: u8, terms: Terms) -> Result<Vec<Gateway>, AllocError>
+    ensures { IfOk result (λ v. v.items ≡ new_gates gates terms.life terms.most gates) }
 {
     (0..gates)
-        .map(|own| start(own, gates, life, most))
+        .map(|own| start(own, gates, terms))
         .collect(heap)
 }
 
 impl Sea {
-    /// Gates that were just made, and an empty net; each talk is good for so many ticks and so many numbers.
+    /// Gates that were just made, and an empty net; and for how long each talk is good.
     #[tactic(auto, using(crate::proofs::Begins::begun))]
-    pub fn new(heap: Global, gates: u8, life: u16, most: u32) -> Result<Sea, AllocError>
-        ensures { IfOk result (λ s. Begun gates life most (books_of s)) }
+    pub fn new(heap: Global, gates: u8, terms: Terms) -> Result<Sea, AllocError>
+        ensures { IfOk result (λ s. Begun gates terms.life terms.most (books_of s)) }
     {
         Ok(Sea {
-            gates: made(heap, gates, life, most)?,
+            gates: made(heap, gates, terms)?,
             net: Vec::new(heap),
             put: Vec::new(heap),
             out: Vec::new(heap),

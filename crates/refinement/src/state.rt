@@ -10,7 +10,7 @@ pub struct Parcel {
 }
 
 /// A word of the net, with the packet that it carries, if it carries one.
-#[derive(Clone, Copy)]
+#[derive(Clone, Copy, Debug, PartialEq, Eq)]
 pub struct Letter {
     pub word: Word,
     pub parcel: Option<Parcel>,
@@ -27,8 +27,8 @@ pub enum EventKind {
     Greet { to: u8, tag: u64 },
     /// A packet is put in.
     Put(Parcel),
-    /// The word at a place of the net is brought, with a tag drawn for a reply, 0 where there is none.
-    Bring { place: usize, tag: u64 },
+    /// The word at a place of the net is brought, with a tag drawn for a reply, if one was.
+    Bring { place: usize, tag: Option<u64> },
 }
 
 /// Something that happens, and the gate at which it does.
@@ -39,7 +39,7 @@ pub struct Event {
 }
 
 /// What an event adds: at most one word to the net, one packet to what was put in, and one to what came out.
-#[derive(Clone, Copy, Default)]
+#[derive(Clone, Copy, Debug, Default, PartialEq, Eq)]
 pub struct Outcome {
     pub sent: Option<Letter>,
     pub put: Option<Letter>,
