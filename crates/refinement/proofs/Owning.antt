@@ -1,10 +1,9 @@
 -- Owners that nobody is: a gate does with an address that nobody owns what it does with one of the number of no gate. Assumes nothing.
-use Rattle.std.proofs.Common.{◌≡◌, ℕ, ◌<◌, Bool, true, false, cond, not, ◌&&◌, eqb, ltb, List, Some, None, Option, sym, refl, ap, ◌∙◌, subst, ap₂, slice_get, slice_index_or, arith}
+use Rattle.std.proofs.Common.{◌≡◌, ℕ, ◌<◌, Bool, true, false, cond, ◌&&◌, eqb, ltb, List, Some, None, Option, sym, refl, ap, ◌∙◌, subst, ap₂, slice_get, arith}
 use Rattle.std.specs.Prelude.{unwrap_or}
-use Rattle.std.proofs.lemmas.Bool.{cond-true, cond-false, ne_eqb, and_parts, both_ways}
+use Rattle.std.proofs.lemmas.Bool.{cond-false, ne_eqb, and_parts, both_ways}
 use Rattle.std.proofs.lemmas.Option.{unwrap_or-slice_get}
-use Rattle.protocol.specs.declared.refusals.Refusal.{Refusal}
-use Rattle.protocol.specs.declared.refusals.Refusal.TheVariants.{WrongGate, ForeignAddress, NoRoute}
+use Rattle.protocol.specs.declared.refusals.Refusal.TheVariants.{ForeignAddress, NoRoute}
 use Rattle.gates.specs.World.{Word as Sealed, Hello as HelloWord, Reply as ReplyWord, Packet as PacketWord, Empty as EmptyWord}
 use Rattle.gateway.specs.declared.state.Gateway.{Gateway}
 use Rattle.gateway.specs.declared.state.Word.{Word}

@@ -1,5 +1,5 @@
 -- Many gates that run the code, and a net that keeps every word and brings any of them to anybody; and what is promised of them. Assumes nothing.
-use Rattle.std.specs.Prelude.{◌≡◌, ℕ, ◌+◌, ◌-◌, ◌^◌, ◌<◌, ◌≤◌, Bool, true, false, cond, List, [], ◌∷◌, ◌++◌, map, length, get_or, Some, None, Ok, Err, vec_items, Option, Result, ◌≢◌, nat_lt, option_map, unwrap_or, slice_get, slice_index_or, slice_set}
+use Rattle.std.specs.Prelude.{◌≡◌, ℕ, ◌+◌, ◌-◌, ◌^◌, ◌<◌, ◌≤◌, false, cond, List, [], ◌∷◌, ◌++◌, map, length, get_or, Some, None, Ok, Err, vec_items, Option, Result, ◌≢◌, nat_lt, option_map, unwrap_or, slice_get, slice_index_or, slice_set}
 use Rattle.std.specs.List.{range_with_len}
 use Rattle.protocol.specs.declared.refusals.Refusal.{Refusal}
 use Rattle.gates.specs.Lists.{In, At}

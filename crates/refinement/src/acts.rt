@@ -78,7 +78,12 @@ fn bring(memory: &mut Gateway, owners: &[u8], letter: Letter, tag: Option<u64>) 
 }
 
 /// An event happens to its gate; nothing does where it brings a letter that the net does not have.
-pub(crate) fn act(memory: &mut Gateway, owners: &[u8], net: &[Letter], kind: EventKind) -> Option<Outcome>
+pub(crate) fn act(
+    memory: &mut Gateway,
+    owners: &[u8],
+    net: &[Letter],
+    kind: EventKind,
+) -> Option<Outcome>
     ensures after { memory.new ≡ after_of owners.now net.now kind memory.old }
     ensures adds { result ≡ outcome_of owners.now net.now kind memory.old }
 {

@@ -22,9 +22,7 @@ fn note(list: &mut Vec<Letter>, letter: Option<Letter>)
 fn made(heap: Global, gates: u8, terms: Terms) -> Result<Vec<Gateway>, AllocError>
     ensures { IfOk result (λ v. v.items ≡ new_gates gates terms.life terms.most gates) }
 {
-    (0..gates)
-        .map(|own| start(own, gates, terms))
-        .collect(heap)
+    (0..gates).map(|own| start(own, gates, terms)).collect(heap)
 }
 
 impl Sea {

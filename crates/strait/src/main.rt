@@ -2,7 +2,7 @@
 // put in, by whom it says, for here, once.
 #![tactic(auto)]
 
-use gateway::Word;
+use gateway::{Terms, Word};
 use refinement::EventKind::{self, Bring, Greet, Put, Restart, Tick};
 use refinement::{Event, Letter, Parcel, Sea};
 
@@ -11,10 +11,11 @@ const OWNERS: [u8; 30] = [
     0, 0, 0, 0, 0, 0, 0, 0, 0, 0, 1, 1, 1, 1, 1, 1, 1, 1, 1, 1, 2, 2, 2, 2, 2, 2, 2, 2, 2, 2,
 ];
 
-/// How long a talk is good, in ticks and in numbers.
-const LIFE: u16 = 600;
-
-const MOST: u32 = 1000;
+/// How long a talk is good.
+const TERMS: Terms = Terms {
+    life: 600,
+    most: 1000,
+};
 
 /// "Lower the ramp", from an address of gate 0's to one of gate 1's.
 const RAMP: Parcel = Parcel {
@@ -55,31 +56,60 @@ fn story() -> [Line; 22] {
         Line::new(
             "the hello is brought to gate 1",
             1,
-            Bring { place: 0, tag: 9 },
+            Bring {
+                place: 0,
+                tag: Some(9),
+            },
         ),
         Line::new(
             "the reply is brought to gate 0",
             0,
-            Bring { place: 1, tag: 0 },
+            Bring {
+                place: 1,
+                tag: None,
+            },
         ),
         Line::new("a packet is put in at gate 0", 0, Put(RAMP)),
-        Line::new("it is brought to gate 1", 1, Bring { place: 2, tag: 0 }),
+        Line::new(
+            "it is brought to gate 1",
+            1,
+            Bring {
+                place: 2,
+                tag: None,
+            },
+        ),
         Line::new(
             "it is brought to gate 1 again",
             1,
-            Bring { place: 2, tag: 0 },
+            Bring {
+                place: 2,
+                tag: None,
+            },
         ),
-        Line::new("it is brought to gate 2", 2, Bring { place: 2, tag: 0 }),
+        Line::new(
+            "it is brought to gate 2",
+            2,
+            Bring {
+                place: 2,
+                tag: None,
+            },
+        ),
         Line::new("gate 1 is switched off and on", 1, Restart),
         Line::new(
             "the kept packet is brought to gate 1",
             1,
-            Bring { place: 2, tag: 0 },
+            Bring {
+                place: 2,
+                tag: None,
+            },
         ),
         Line::new(
             "the kept hello is brought to gate 1",
             1,
-            Bring { place: 0, tag: 10 },
+            Bring {
+                place: 0,
+                tag: Some(10),
+            },
         ),
         Line::new(
             "a packet is put in at gate 0, which is still sure",
@@ -89,27 +119,46 @@ fn story() -> [Line; 22] {
         Line::new(
             "it is brought to gate 1, which has forgotten",
             1,
-            Bring { place: 3, tag: 0 },
+            Bring {
+                place: 3,
+                tag: None,
+            },
         ),
         Line::new("a tick passes at gate 0", 0, Tick),
         Line::new("gate 0 greets gate 1", 0, Greet { to: 1, tag: 6 }),
         Line::new(
             "the hello is brought to gate 1",
             1,
-            Bring { place: 4, tag: 11 },
+            Bring {
+                place: 4,
+                tag: Some(11),
+            },
         ),
         Line::new(
             "the reply is brought to gate 0",
             0,
-            Bring { place: 5, tag: 0 },
+            Bring {
+                place: 5,
+                tag: None,
+            },
         ),
         Line::new(
             "the kept packet is brought to gate 1 once more",
             1,
-            Bring { place: 2, tag: 0 },
+            Bring {
+                place: 2,
+                tag: None,
+            },
         ),
         Line::new("a packet is put in at gate 0", 0, Put(RAMP)),
-        Line::new("it is brought to gate 1", 1, Bring { place: 6, tag: 0 }),
+        Line::new(
+            "it is brought to gate 1",
+            1,
+            Bring {
+                place: 6,
+                tag: None,
+            },
+        ),
         Line::new(
             "a packet under gate 2's name is put in at gate 0",
             0,
@@ -118,7 +167,10 @@ fn story() -> [Line; 22] {
         Line::new(
             "a word that is not there is brought to gate 1",
             1,
-            Bring { place: 7, tag: 0 },
+            Bring {
+                place: 7,
+                tag: None,
+            },
         ),
     ]
 }
@@ -153,7 +205,7 @@ fn play(rt: &HostRuntime, sea: &mut Sea, line: Line) -> anyhow::Result<()> {
 }
 
 fn run(rt: &HostRuntime) -> anyhow::Result<()> {
-    let mut sea = Sea::new(rt.alloc(), 3, LIFE, MOST)?;
+    let mut sea = Sea::new(rt.alloc(), 3, TERMS)?;
     for line in story() {
         play(rt, &mut sea, line)?;
     }
