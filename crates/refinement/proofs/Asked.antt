@@ -33,16 +33,10 @@ use Rattle.refinement.proofs.Sessions.{FoundBoth, sending_both, found_same, peer
 use Rattle.refinement.proofs.Asking.{any_set}
 use Rattle.refinement.proofs.Standing.{peer_bound, stands_peer, stands-changed}
 
-nothing_there : (x : Wait) → ◌≡◌ {A = Option Wait} None (Some x) → ⊥
-nothing_there x e = let z : ◌≡◌ {A = ℕ} 0 1 = cc in omega arith
-
-inside : (x y : Wait) → ◌≡◌ {A = Option Wait} (Some x) (Some y) → x ≡ y
-inside x y e = cc
-
 pub empty-place : (n i : ℕ) (x : Wait) → get_or (replicate n None) i None ≡ Some x → ⊥
-empty-place zero zero x e = nothing_there x e
-empty-place zero (suc i) x e = nothing_there x e
-empty-place (suc n) zero x e = nothing_there x e
+empty-place zero zero x e = cc
+empty-place zero (suc i) x e = cc
+empty-place (suc n) zero x e = cc
 empty-place (suc n) (suc i) x e = empty-place n i x e
 
 abbrev is_greeted_in : ℕ → List (Option Wait) → Bool
@@ -84,15 +78,15 @@ place_free now n t ws i is l placed fresh = go (get_or ws i None) refl
 -- no hello was said in this tick: none in any place was
 not-greeted : (now : ℕ) (ws : List (Option Wait)) → is_greeted_in now ws ≡ false → (j : ℕ) (x : Wait) → get_or ws j None ≡ Some x → x.at ≡ now → ⊥
 unfolding first_that
-not-greeted now [] h zero x e s = nothing_there x e
-not-greeted now [] h (suc j) x e s = nothing_there x e
-not-greeted now (None ∷ ws) h zero x e s = nothing_there x e
+not-greeted now [] h zero x e s = cc
+not-greeted now [] h (suc j) x e s = cc
+not-greeted now (None ∷ ws) h zero x e s = cc
 not-greeted now (None ∷ ws) h (suc j) x e s = not-greeted now ws h j x e s
 not-greeted now (Some y ∷ ws) h j x e s = by (eqb y.at now) refl j e h (λ i k l. not-greeted now ws k i x l s)
   where
     by : (b : Bool) → eqb y.at now ≡ b → (i : ℕ) → get_or (Some y ∷ ws) i None ≡ Some x → is_some (cond b (Some y) (first_that (λ z. eqb z.at now) ws)) ≡ false →
         ((i : ℕ) → is_greeted_in now ws ≡ false → get_or ws i None ≡ Some x → ⊥) → ⊥
-    by true p i q f rest = subst (λ (z : Bool). cond z (Unit {0}) ⊥) f tt
+    by true p i q f rest = cc
     by false p zero q f rest = let u : y ≡ x = cc in eqb-false y.at now p (ap (λ (z : Wait). z.at) u ∙ s)
     by false p (suc i) q f rest = rest i f q
 
@@ -285,7 +279,8 @@ module _ (k life most : ℕ) (fits : most < 2 ^ 32) (owner : ℕ → ℕ) where
           here : i ≡ s.now % 6 → (x.at % 6 ≡ i) × (x.at ≤ now)
           here z =
               let is : Some y ≡ Some x = sym (get_or-set_same p.waits (s.now % 6) (Some y) None in-six) ∙ (ap (λ q. get_or (set p.waits (s.now % 6) (Some y)) q None) (sym z) ∙ h) in
-              let at-is : x.at ≡ s.now = ap (λ (q : Wait). q.at) (sym (inside y x is)) in
+              let same : y ≡ x = cc in
+              let at-is : x.at ≡ s.now = ap (λ (q : Wait). q.at) (sym same) in
               let now-is : s.now ≡ now = st.now_so in
               (ap (λ q. q % 6) at-is ∙ sym z, omega arith)
 

@@ -1,5 +1,6 @@
 -- Hellos that wait, in memory and in the abstract gate: of every tag and every later tick, whether one can still be answered. Assumes nothing.
-use Rattle.std.proofs.Common.{◌≡◌, ℕ, zero, suc, ◌+◌, ◌<◌, ◌≤◌, Bool, true, false, cond, not, ◌&&◌, ◌||◌, eqb, leb, List, [], ◌∷◌, map, length, get_or, set, is_some, Some, None, Option, sym, refl, ap, ◌∙◌, subst, le_of_suc-le-suc, arith}
+use Rattle.std.proofs.Common.{◌≡◌, ℕ, zero, suc, ◌+◌, ◌<◌, Bool, true, false, cond, not, ◌&&◌, ◌||◌, eqb, leb, List, [], ◌∷◌, map, length, get_or, set, is_some, Some, None, Option, sym, refl, ap, ◌∙◌, le_of_suc-le-suc, arith}
+use Rattle.std.proofs.Math.Bool.{and-false}
 use Rattle.std.proofs.lemmas.Bool.{eqb-true, eqb-false, ne_eqb}
 use Rattle.gates.specs.World.{waits_for, without_wait}
 use Rattle.gates.specs.World.{Wait as Waiter}
@@ -15,7 +16,7 @@ kept a false c h = refl
 
 gone : (a b c : Bool) → (b ≡ false → a ≡ false) → (not b && c) ≡ (not b && (a || c))
 gone a true c h = refl
-gone true false c h = absurd (subst (λ (z : Bool). cond z (Unit {0}) ⊥) (h refl) tt)
+gone true false c h = absurd (cc (h refl))
 gone false false c h = refl
 
 never : (b : Bool) → false ≡ (not b && false)
@@ -37,10 +38,7 @@ any_cons p x xs = go (p x)
 -- one more in a place of which what stood there did not pass
 pub any_set : {A : Type 0} (p : A → Bool) (y : A) (xs : List (Option A)) (i : ℕ) → i < length xs → holds p (get_or xs i None) ≡ false → any p (set xs i (Some y)) ≡ (p y || any p xs)
 unfolding first_that
-any_set p y [] i l f = absurd (no_place i l)
-  where
-    no_place : (k : ℕ) → suc k ≤ 0 → ⊥
-    no_place k h = omega arith
+any_set p y [] i l f = absurd (omega arith)
 any_set p y (None ∷ xs) zero l f = any_cons p y xs
 any_set p y (Some x ∷ xs) zero l f = any_cons p y xs ∙ ap (λ z. p y || z) (sym (any_cons p x xs ∙ ap (λ b. b || any p xs) f))
 any_set p y (None ∷ xs) (suc i) l f = any_set p y xs i (le_of_suc-le-suc l) f
@@ -78,11 +76,7 @@ waits_without n e t k [] = never (eqb k t)
 waits_without n e t k (x ∷ xs) = by (eqb x.tag k) refl (waits_without n e t k xs)
   where
     none : eqb x.tag t ≡ false → (eqb x.for' e && (eqb x.tag t && leb n (x.at + 5))) ≡ false
-    none h = ap (λ z. eqb x.for' e && (z && leb n (x.at + 5))) h ∙ off (eqb x.for' e)
-      where
-        off : (b : Bool) → (b && false) ≡ false
-        off true = refl
-        off false = refl
+    none h = ap (λ z. eqb x.for' e && (z && leb n (x.at + 5))) h ∙ and-false (eqb x.for' e)
 
     by : (b : Bool) → eqb x.tag k ≡ b → waits_for n e t (without_wait k xs) ≡ (not (eqb k t) && waits_for n e t xs) →
         waits_for n e t (cond b (without_wait k xs) (x ∷ without_wait k xs)) ≡ (not (eqb k t) && ((eqb x.for' e && (eqb x.tag t && leb n (x.at + 5))) || waits_for n e t xs))

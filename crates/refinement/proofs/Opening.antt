@@ -40,10 +40,7 @@ none-greeted now (Some y ∷ ws) h =
 -- what was just put in a place passes
 set_passes : {A : Type 0} (p : A → Bool) (y : A) (xs : List (Option A)) (i : ℕ) → i < length xs → p y ≡ true → is_some (first_that p (set xs i (Some y))) ≡ true
 unfolding first_that
-set_passes p y [] i l h = absurd (none i l)
-  where
-    none : (n : ℕ) → suc n ≤ 0 → ⊥
-    none n k = omega arith
+set_passes p y [] i l h = absurd (omega arith)
 set_passes p y (x ∷ xs) zero l h = ap is_some (cond-true (p y) (Some y) (first_that p xs) h)
 set_passes p y (None ∷ xs) (suc i) l h = set_passes p y xs i (le_of_suc-le-suc l) h
 set_passes p y (Some x ∷ xs) (suc i) l h = go (p x) (set_passes p y xs i (le_of_suc-le-suc l) h)
@@ -65,9 +62,24 @@ self a = eq-eqb a a refl
 nonzero : (t : ℕ) → 0 < t → eqb t 0 ≡ false
 nonzero t h = ne_eqb t 0 (λ e. omega arith)
 
-module _ (s_a s_e : Gateway) (t y : ℕ) (pe : is_peer s_e.own s_a ≡ true) (pa : is_peer s_a.own s_e ≡ true) (t_a : length s_a.peers ≡ 32) (t_e : length s_e.peers ≡ 32)
-    (six : length (peer_at s_e.own s_a).waits ≡ 6) (old : (i : ℕ) (x : Wait) → get_or (peer_at s_e.own s_a).waits i None ≡ Some x → x.at ≤ s_a.now) (fell : s_a.fell ≤ s_a.now)
-    (clock : s_a.now < 2 ^ 64 - 1) (late : (peer_at s_a.own s_e).last_hello ≤ s_a.now) (nt : 0 < t) (ny : 0 < y) (most : 0 < s_a.terms.most) where
+-- Two gates that know each other, of which the first can say a new hello that the second has to take, and two tags.
+record Ready (s_a s_e : Gateway) (t y : ℕ) : Type 0 where
+  pub pe : is_peer s_e.own s_a ≡ true
+  pub pa : is_peer s_a.own s_e ≡ true
+  pub t_a : length s_a.peers ≡ 32
+  pub t_e : length s_e.peers ≡ 32
+  pub six : length (peer_at s_e.own s_a).waits ≡ 6
+  pub old : (i : ℕ) (x : Wait) → get_or (peer_at s_e.own s_a).waits i None ≡ Some x → x.at ≤ s_a.now
+  pub fell : s_a.fell ≤ s_a.now
+  pub clock : s_a.now < 2 ^ 64 - 1
+  pub late : (peer_at s_a.own s_e).last_hello ≤ s_a.now
+  pub nt : 0 < t
+  pub ny : 0 < y
+  pub most : 0 < s_a.terms.most
+
+module _ (s_a s_e : Gateway) (t y : ℕ) (r : Ready s_a s_e t y) where
+  open r use {pe, pa, t_a, t_e, six, old, fell, clock, late, nt, ny, most}
+
   abbrev A : ℕ
   A = s_a.own
 
@@ -197,7 +209,11 @@ record Stage (k a e : ℕ) (b : Books) (s_a s_e : Gateway) (net out : List Lette
   pub net_so : b.net ≡ net
   pub out_so : b.out ≡ out
 
-module _ (owners : List ℕ) (k a e : ℕ) (la : a < k) (le' : e < k) (ne : a ≡ e → ⊥) where
+-- the same, seen from the other gate
+turned : {k a e : ℕ} {b : Books} {s_a s_e : Gateway} {net out : List Letter} → Stage k a e b s_a s_e net out → Stage k e a b s_e s_a net out
+turned h = record { long = h.long; at_a = h.at_e; at_e = h.at_a; net_so = h.net_so; out_so = h.out_so }
+
+module _ (owners : List ℕ) (k : ℕ) where
   -- an event whose gate and letter are there
   happens-is : (ev : EventKind) (g : ℕ) (b : Books) (s s' : Gateway) (net : List Letter) (o : Outcome) → g < length b.gates → b.net ≡ net → get_or b.gates g no_gate ≡ s → after_of owners net ev s ≡ s' →
       outcome_of owners net ev s ≡ Some o → happens owners (at_gate g ev) b ≡ entered g s' o b
@@ -205,10 +221,10 @@ module _ (owners : List ℕ) (k a e : ℕ) (la : a < k) (le' : e < k) (ne : a �
       cond-true (ltb g (length b.gates)) _ b (lt-ltb g (length b.gates) less) ∙
       ap₂ (λ u v. entered_if g u v b) (ap₂ (λ x y. after_of owners x ev y) n at ∙ after) (ap₂ (λ x y. outcome_of owners x ev y) n at ∙ adds)
 
-  -- the event happens at gate a
-  stage_a : (ev : EventKind) (b : Books) (s_a s_e s : Gateway) (net out : List Letter) (o : Outcome) → after_of owners net ev s_a ≡ s → outcome_of owners net ev s_a ≡ Some o →
+  -- the event happens at the first gate
+  stage : (a e : ℕ) → a < k → (a ≡ e → ⊥) → (ev : EventKind) (b : Books) (s_a s_e s : Gateway) (net out : List Letter) (o : Outcome) → after_of owners net ev s_a ≡ s → outcome_of owners net ev s_a ≡ Some o →
       Stage k a e b s_a s_e net out → Stage k a e (happens owners (at_gate a ev) b) s s_e (net ++ list_of o.sent) (out ++ list_of o.out)
-  stage_a ev b s_a s_e s net out o after adds h =
+  stage a e la ne ev b s_a s_e s net out o after adds h =
       subst
       (λ z. Stage k a e z s s_e (net ++ list_of o.sent) (out ++ list_of o.out))
       (sym (happens-is ev a b s_a s net o (let q = h.long in omega arith) h.net_so h.at_a after adds))
@@ -216,21 +232,6 @@ module _ (owners : List ℕ) (k a e : ℕ) (la : a < k) (le' : e < k) (ne : a �
         long = length-set b.gates a s ∙ h.long;
         at_a = get_or-set_same b.gates a s no_gate (let q = h.long in omega arith);
         at_e = get_or-set_other b.gates a e s no_gate (λ z. ne (sym z)) ∙ h.at_e;
-        net_so = ap (λ z. z ++ list_of o.sent) h.net_so;
-        out_so = ap (λ z. z ++ list_of o.out) h.out_so;
-      })
-
-  -- the event happens at gate e
-  stage_e : (ev : EventKind) (b : Books) (s_a s_e s : Gateway) (net out : List Letter) (o : Outcome) → after_of owners net ev s_e ≡ s → outcome_of owners net ev s_e ≡ Some o →
-      Stage k a e b s_a s_e net out → Stage k a e (happens owners (at_gate e ev) b) s_a s (net ++ list_of o.sent) (out ++ list_of o.out)
-  stage_e ev b s_a s_e s net out o after adds h =
-      subst
-      (λ z. Stage k a e z s_a s (net ++ list_of o.sent) (out ++ list_of o.out))
-      (sym (happens-is ev e b s_e s net o (let q = h.long in omega arith) h.net_so h.at_e after adds))
-      (record {
-        long = length-set b.gates e s ∙ h.long;
-        at_a = get_or-set_other b.gates e a s no_gate ne ∙ h.at_a;
-        at_e = get_or-set_same b.gates e s no_gate (let q = h.long in omega arith);
         net_so = ap (λ z. z ++ list_of o.sent) h.net_so;
         out_so = ap (λ z. z ++ list_of o.out) h.out_so;
       })
@@ -290,6 +291,23 @@ can_open owners k life most es b a e t y p few some fits h la le' ne from to clo
     most' : 0 < s_a.terms.most
     most' = let q = st_a.most_so in omega arith
 
+    ready : Ready s_a s_e t y
+    ready =
+        record {
+          pe = pe;
+          pa = pa;
+          t_a = st_a.table;
+          t_e = st_e.table;
+          six = sp_e.six;
+          old = old;
+          fell = st_a.fell_so;
+          clock = clock;
+          late = late;
+          nt = nt;
+          ny = ny;
+          most = most';
+        }
+
     n : ℕ
     n = length b.net
 
@@ -345,39 +363,39 @@ can_open owners k life most es b a e t y p few some fits h la le' ne from to clo
     b₅ = happens owners (at_gate a (Put p)) b₄
 
     x₂ : Gateway
-    x₂ = s₂ s_a s_e t y pe pa st_a.table st_e.table sp_e.six old st_a.fell_so clock late nt ny most'
+    x₂ = s₂ s_a s_e t y ready
 
     x₃ : Gateway
-    x₃ = s₃ s_a s_e t y pe pa st_a.table st_e.table sp_e.six old st_a.fell_so clock late nt ny most'
+    x₃ = s₃ s_a s_e t y ready
 
     y₁ : Gateway
-    y₁ = e₁ s_a s_e t y pe pa st_a.table st_e.table sp_e.six old st_a.fell_so clock late nt ny most'
+    y₁ = e₁ s_a s_e t y ready
 
     st₁ : Stage k a e b₁ (ticked s_a) s_e b.net b.out
-    st₁ = quiet b₁ (ticked s_a) s_e b.net b.out (stage_a owners k a e la le' ne Tick b s_a s_e (ticked s_a) b.net b.out silent refl refl (record { long = h.all; at_a = refl; at_e = refl; net_so = refl; out_so = refl }))
+    st₁ = quiet b₁ (ticked s_a) s_e b.net b.out (stage owners k a e la ne Tick b s_a s_e (ticked s_a) b.net b.out silent refl refl (record { long = h.all; at_a = refl; at_e = refl; net_so = refl; out_so = refl }))
 
     st₂ : Stage k a e b₂ x₂ s_e net₂ b.out
     st₂ =
         spoken b₂ x₂ s_e net₂ b.out
-        (stage_a owners k a e la le' ne (Greet e t) b₁ (ticked s_a) s_e x₂ b.net b.out (record { sent = Some hello; put = None; out = None })
-        (ap (λ z. greet_after z t (ticked s_a)) (sym is_e) ∙ greet-after s_a s_e t y pe pa st_a.table st_e.table sp_e.six old st_a.fell_so clock late nt ny most')
-        (ap (λ o. Some (record { sent = letter_of None o; put = None; out = None })) (ap (λ z. greet z t (ticked s_a)) (sym is_e) ∙ greet-is s_a s_e t y pe pa st_a.table st_e.table sp_e.six old st_a.fell_so clock late nt ny most'))
+        (stage owners k a e la ne (Greet e t) b₁ (ticked s_a) s_e x₂ b.net b.out (record { sent = Some hello; put = None; out = None })
+        (ap (λ z. greet_after z t (ticked s_a)) (sym is_e) ∙ greet-after s_a s_e t y ready)
+        (ap (λ o. Some (record { sent = letter_of None o; put = None; out = None })) (ap (λ z. greet z t (ticked s_a)) (sym is_e) ∙ greet-is s_a s_e t y ready))
         st₁)
 
     st₃ : Stage k a e b₃ x₂ y₁ net₃ b.out
     st₃ =
         spoken b₃ x₂ y₁ net₃ b.out
-        (stage_e owners k a e la le' ne (Bring n (Some y)) b₂ x₂ s_e y₁ net₂ b.out (record { sent = Some reply; put = None; out = None })
-        (ap (after_letter owners y s_e) (last_there b.net hello n refl) ∙ hello-after s_a s_e t y pe pa st_a.table st_e.table sp_e.six old st_a.fell_so clock late nt ny most')
-        (ap (letter_adds owners y s_e) (last_there b.net hello n refl) ∙ ap (λ r. Some (brought_out hello r)) (hello-took s_a s_e t y pe pa st_a.table st_e.table sp_e.six old st_a.fell_so clock late nt ny most'))
-        st₂)
+        (turned (stage owners k e a le' (λ z. ne (sym z)) (Bring n (Some y)) b₂ s_e x₂ y₁ net₂ b.out (record { sent = Some reply; put = None; out = None })
+        (ap (after_letter owners y s_e) (last_there b.net hello n refl) ∙ hello-after s_a s_e t y ready)
+        (ap (letter_adds owners y s_e) (last_there b.net hello n refl) ∙ ap (λ r. Some (brought_out hello r)) (hello-took s_a s_e t y ready))
+        (turned st₂)))
 
     st₄ : Stage k a e b₄ x₃ y₁ net₃ b.out
     st₄ =
         quiet b₄ x₃ y₁ net₃ b.out
-        (stage_a owners k a e la le' ne (Bring (n + 1) None) b₃ x₂ y₁ x₃ net₃ b.out silent
-        (ap (after_letter owners 0 x₂) (last_there net₂ reply (n + 1) len₂) ∙ reply-after s_a s_e t y pe pa st_a.table st_e.table sp_e.six old st_a.fell_so clock late nt ny most')
-        (ap (letter_adds owners 0 x₂) (last_there net₂ reply (n + 1) len₂) ∙ ap (λ r. Some (brought_out reply r)) (reply-took s_a s_e t y pe pa st_a.table st_e.table sp_e.six old st_a.fell_so clock late nt ny most'))
+        (stage owners k a e la ne (Bring (n + 1) None) b₃ x₂ y₁ x₃ net₃ b.out silent
+        (ap (after_letter owners 0 x₂) (last_there net₂ reply (n + 1) len₂) ∙ reply-after s_a s_e t y ready)
+        (ap (letter_adds owners 0 x₂) (last_there net₂ reply (n + 1) len₂) ∙ ap (λ r. Some (brought_out reply r)) (reply-took s_a s_e t y ready))
         st₃)
 
     from_is : owner_at owners p.from ≡ Some s_a.own
@@ -387,12 +405,12 @@ can_open owners k life most es b a e t y p few some fits h la le' ne from to clo
     to-is = known_at owners p.to e to (omega arith) ∙ ap Some (sym is_e)
 
     put_so : put (owner_at owners p.from) (owner_at owners p.to) x₃ ≡ Ok (Some packet.word)
-    put_so = ap₂ (λ u v. put u v x₃) from_is to-is ∙ put_is s_a s_e t y pe pa st_a.table st_e.table sp_e.six old st_a.fell_so clock late nt ny most'
+    put_so = ap₂ (λ u v. put u v x₃) from_is to-is ∙ put_is s_a s_e t y ready
 
     st₅ : Stage k a e b₅ (put_after (owner_at owners p.from) (owner_at owners p.to) x₃) y₁ net₅ b.out
     st₅ =
         spoken b₅ _ y₁ net₅ b.out
-        (stage_a owners k a e la le' ne (Put p) b₄ x₃ y₁ (put_after (owner_at owners p.from) (owner_at owners p.to) x₃) net₃ b.out (record { sent = Some packet; put = Some packet; out = None }) refl
+        (stage owners k a e la ne (Put p) b₄ x₃ y₁ (put_after (owner_at owners p.from) (owner_at owners p.to) x₃) net₃ b.out (record { sent = Some packet; put = Some packet; out = None }) refl
         (ap (λ o. Some (record { sent = letter_of (Some p) (gone_out o); put = letter_of (Some p) (gone_out o); out = None })) put_so)
         st₄)
 
@@ -404,6 +422,6 @@ can_open owners k life most es b a e t y p few some fits h la le' ne from to clo
 
     final : Stage k a e (happens owners (at_gate e (Bring (n + 2) None)) b₅) (put_after (owner_at owners p.from) (owner_at owners p.to) x₃) (after_letter owners 0 y₁ (slice_get net₅ (n + 2))) (net₅ ++ []) (b.out ++ (packet ∷ []))
     final =
-        stage_e owners k a e la le' ne (Bring (n + 2) None) b₅ _ y₁ _ net₅ b.out (record { sent = None; put = None; out = Some packet }) refl
-        (ap (letter_adds owners 0 y₁) letter₅ ∙ ap (λ r. Some (brought_out packet r)) (ap (λ w. took w 0 y₁) opened-is ∙ packet-took s_a s_e t y pe pa st_a.table st_e.table sp_e.six old st_a.fell_so clock late nt ny most'))
-        st₅
+        turned (stage owners k e a le' (λ z. ne (sym z)) (Bring (n + 2) None) b₅ y₁ _ _ net₅ b.out (record { sent = None; put = None; out = Some packet }) refl
+        (ap (letter_adds owners 0 y₁) letter₅ ∙ ap (λ r. Some (brought_out packet r)) (ap (λ w. took w 0 y₁) opened-is ∙ packet-took s_a s_e t y ready))
+        (turned st₅))

@@ -1,6 +1,7 @@
 -- Owners that nobody is: a gate does with an address that nobody owns what it does with one of the number of no gate. Assumes nothing.
 use Rattle.std.proofs.Common.{◌≡◌, ℕ, ◌<◌, Bool, true, false, cond, ◌&&◌, eqb, ltb, List, Some, None, Option, sym, refl, ap, ◌∙◌, subst, ap₂, slice_get, arith}
 use Rattle.std.specs.Prelude.{unwrap_or}
+use Rattle.std.proofs.Math.Bool.{and-false}
 use Rattle.std.proofs.lemmas.Bool.{cond-false, ne_eqb, and_parts, both_ways}
 use Rattle.std.proofs.lemmas.Option.{unwrap_or-slice_get}
 use Rattle.protocol.specs.declared.refusals.Refusal.TheVariants.{ForeignAddress, NoRoute}
@@ -73,11 +74,7 @@ put_after_same s None goal u v a b = ap (λ z. leaves z s (sent_for (Some v) s))
 
 -- 255 is no gate's
 no_peer : (s : Gateway) → is_peer 255 s ≡ false
-no_peer s = go (ltb 255 s.gates)
-  where
-    go : (b : Bool) → (b && false) ≡ false
-    go true = refl
-    go false = refl
+no_peer s = and-false (ltb 255 s.gates)
 
 -- the table's owner of an address is a gate's, or none, and then the abstract one is nobody's number
 pub numbers_at : (owners : List ℕ) (x : ℕ) (s : Gateway) → s.own < 32 → Numbers s (owner_at owners x) (owner_in owners x)

@@ -243,25 +243,22 @@ module _ (k life most : ℕ) (few : k ≤ 32) (fits : most < 2 ^ 32) (owners : L
   brought-drew t ts (Ok Alive) h = inl refl
   brought-drew t ts (Err f) h = inl refl
 
-  not-out : (w : Word) → ◌≡◌ {A = Result Taken Refusal} (Ok (Answer w)) (Ok Out) → ⊥
-  not-out w e = let z : ◌≡◌ {A = ℕ} 0 1 = cc in omega arith
-
   -- what comes out was for this gate
   out_for_lem : (x : Sealed) (t : ℕ) (s : Gateway) → took (as_code (owner_in owners) x) t s ≡ Ok Out → for_of x ≡ s.own
   out_for_lem (HelloWord a f tag n) t s e = absurd (go (hello_fault a f tag n t s) e)
     where
       go : (o : Option Refusal) → answer o (Answer (Reply s.own a t tag)) ≡ Ok Out → ⊥
-      go None h = not-out _ h
-      go (Some f') h = let z : ◌≡◌ {A = ℕ} 0 1 = cc in omega arith
+      go None h = cc
+      go (Some f') h = cc
   out_for_lem (ReplyWord a f tag to) t s e = absurd (go (reply_fault a f tag to s) e)
     where
       go : (o : Option Refusal) → answer o Sure ≡ Ok Out → ⊥
-      go None h = let z : ◌≡◌ {A = ℕ} 0 1 = cc in omega arith
-      go (Some f') h = let z : ◌≡◌ {A = ℕ} 0 1 = cc in omega arith
+      go None h = cc
+      go (Some f') h = cc
   out_for_lem (PacketWord a f m h n y) t s e = go (packet_talk a f m h n (Some (owner_in owners y.from)) (Some (owner_in owners y.to)) s) refl e
     where
       go : (v : Result Talk Refusal) → packet_talk a f m h n (Some (owner_in owners y.from)) (Some (owner_in owners y.to)) s ≡ v → answered-as Out v ≡ Ok Out → f ≡ s.own
-      go (Err f') q z = absurd (let u : ◌≡◌ {A = ℕ} 0 1 = cc in omega arith)
+      go (Err f') q z = absurd (cc)
       go (Ok u) q z =
           let o = (owned_ok k life most few (owner_in owners) _ (found_talk a f m h n s) u q).1 in
           let c = (talk_tests k life most few (owner_in owners) (is_peer a s && eqb f s.own) (eqb m 0 || eqb h 0) _ u o).0 in
@@ -269,8 +266,8 @@ module _ (k life most : ℕ) (few : k ≤ 32) (fits : most < 2 ^ 32) (owners : L
   out_for_lem (EmptyWord a f m h n) t s e = absurd (go (found_talk a f m h n s) e)
     where
       go : (v : Result Talk Refusal) → answered-as Alive v ≡ Ok Out → ⊥
-      go (Err f') z = let u : ◌≡◌ {A = ℕ} 0 1 = cc in omega arith
-      go (Ok u) z = let q : ◌≡◌ {A = ℕ} 0 1 = cc in omega arith
+      go (Err f') z = cc
+      go (Ok u) z = cc
 
   -- a reply is made only under a tag
   reply-tag : (x : Sealed) (t : ℕ) (s : Gateway) (w : Word) → took (as_code (owner_in owners) x) t s ≡ Ok (Answer w) → 0 < t
@@ -281,22 +278,22 @@ module _ (k life most : ℕ) (few : k ≤ 32) (fits : most < 2 ^ 32) (owners : L
           let z = (hello-none k life most few (owner_in owners) (is_peer a s && eqb f s.own) (eqb tag 0) (leb n (peer_at a s).last_hello) (eqb t 0) q).3 in
           let ne : t ≡ 0 → ⊥ = eqb-false t 0 z in
           omega arith
-      go (Some f') q h = absurd (let z : ◌≡◌ {A = ℕ} 0 1 = cc in omega arith)
+      go (Some f') q h = absurd (cc)
   reply-tag (ReplyWord a f tag to) t s w e = absurd (go (reply_fault a f tag to s) e)
     where
       go : (o : Option Refusal) → answer o Sure ≡ Ok (Answer w) → ⊥
-      go None h = let z : ◌≡◌ {A = ℕ} 0 1 = cc in omega arith
-      go (Some f') h = let z : ◌≡◌ {A = ℕ} 0 1 = cc in omega arith
+      go None h = cc
+      go (Some f') h = cc
   reply-tag (PacketWord a f m h n y) t s w e = absurd (go (packet_talk a f m h n (Some (owner_in owners y.from)) (Some (owner_in owners y.to)) s) e)
     where
       go : (v : Result Talk Refusal) → answered-as Out v ≡ Ok (Answer w) → ⊥
-      go (Err f') z = let u : ◌≡◌ {A = ℕ} 0 1 = cc in omega arith
-      go (Ok u) z = let q : ◌≡◌ {A = ℕ} 0 1 = cc in omega arith
+      go (Err f') z = cc
+      go (Ok u) z = cc
   reply-tag (EmptyWord a f m h n) t s w e = absurd (go (found_talk a f m h n s) e)
     where
       go : (v : Result Talk Refusal) → answered-as Alive v ≡ Ok (Answer w) → ⊥
-      go (Err f') z = let u : ◌≡◌ {A = ℕ} 0 1 = cc in omega arith
-      go (Ok u) z = let q : ◌≡◌ {A = ℕ} 0 1 = cc in omega arith
+      go (Err f') z = cc
+      go (Ok u) z = cc
 
   -- the tags that are offered with a word that is brought
   abbrev offered : ℕ → List ℕ
@@ -354,7 +351,7 @@ module _ (k life most : ℕ) (few : k ≤ 32) (fits : most < 2 ^ 32) (owners : L
 
   -- the letter at a place of the net is in it
   in-place : (ls : List Letter) (i : ℕ) (l : Letter) → slice_get ls i ≡ Some l → In l ls
-  in-place [] i l e = absurd (let z : ◌≡◌ {A = ℕ} 0 1 = cc in omega arith)
+  in-place [] i l e = absurd (cc)
   in-place (x ∷ xs) zero l e = Memᴰ.head (cc)
   in-place (x ∷ xs) (suc i) l e = Memᴰ.tail (in-place xs i l e)
 

@@ -1,7 +1,7 @@
 -- Places in memory that agree with an abstract gate's talks: what is found in both, and that they go on agreeing. Assumes nothing.
 use Rattle.std.proofs.Common.{◌≡◌, ℕ, Bool, true, false, cond, ◌&&◌, eqb, ◌⊎◌, List, [], ◌∷◌, length, get_or, take, is_ok, Some, None, Option, sym, refl, ap, ◌∙◌, subst, inl, inr, ⊎_elim, arith}
 use mathlib.Core.List.Memᴰ
-use Rattle.std.proofs.lemmas.Bool.{cond-true, cond-false, eqb-true, eqb-false, eq-eqb, ne_eqb}
+use Rattle.std.proofs.lemmas.Bool.{cond-true, cond-false, eqb-true, eqb-false, eq-eqb, ne_eqb, both_ways}
 use Rattle.gates.specs.Lists.{In}
 use Rattle.gates.specs.Talk.{Rules}
 use Rattle.gates.specs.Talk as abstract
@@ -21,9 +21,6 @@ use Rattle.gateway.specs.Peers.{same_tag}
 use Rattle.gateway.specs.Steps.{by_verdict, found_in}
 use Rattle.refinement.specs.Relation.{rules_of, with_peer, SameTalk, Vacant, Agrees}
 
-not_same : {A : Type 0} (x : A) → ◌≡◌ {A = Option A} None (Some x) → ⊥
-not_same x e = let z : ◌≡◌ {A = ℕ} 0 1 = cc in omega arith
-
 vacant_first : (q : Talk → Bool) (us : List (Option Talk)) → Vacant us → first_that q us ≡ None
 unfolding Vacant first_that
 vacant_first q [] v = refl
@@ -34,7 +31,7 @@ vacant_first q (Some u ∷ us) v = absurd v
 pub found_same : (q : Talk → Bool) (ts : List Session) (us : List (Option Talk)) (u : Talk) → Agrees ts us → first_that q us ≡ Some u →
     (t : Session) × In t ts × SameTalk t u × (q u ≡ true)
 unfolding Agrees first_that
-found_same q [] us u a e = absurd (not_same u (sym (vacant_first q us a) ∙ e))
+found_same q [] us u a e = absurd (cc (vacant_first q us a))
 found_same q (t ∷ ts) [] u a e = absurd a
 found_same q (t ∷ ts) (None ∷ us) u a e = absurd a
 found_same q (t ∷ ts) (Some v ∷ us) u a e = go (q v) refl e (λ k. found_same q ts us u a.1 k)
@@ -72,14 +69,11 @@ first_both p q same (t ∷ ts) (Some u ∷ us) a = go (p t) refl (q u) refl (fir
     later (This z) None h = absurd h
     later (This z) (Some v) h = (Memᴰ.tail h.0, h.1)
 
-    differ : (b : Bool) → b ≡ true → b ≡ false → ⊥
-    differ b h k = subst (λ (z : Bool). cond z (Unit {0}) ⊥) (sym h ∙ k) tt
-
     go : (b : Bool) → p t ≡ b → (c : Bool) → q u ≡ c → FoundBoth ts (first_session p ts) (first_that q us) →
         FoundBoth (t ∷ ts) (cond b (This t) (first_session p ts)) (cond c (Some u) (first_that q us))
     go true s true k rest = (Memᴰ.head refl, a.0)
-    go true s false k rest = absurd (differ (q u) (sym (same t u a.0) ∙ s) k)
-    go false s true k rest = absurd (differ (q u) k (sym (same t u a.0) ∙ s))
+    go true s false k rest = absurd (both_ways (q u) k (sym (same t u a.0) ∙ s))
+    go false s true k rest = absurd (both_ways (q u) (sym (same t u a.0) ∙ s) k)
     go false s false k rest = later (first_session p ts) (first_that q us) rest
 
 -- looking for a talk to send by among all is looking among those with that gate
@@ -215,7 +209,7 @@ change_peer e m f keeps (t ∷ ts) d = go (eqb t.mine m) refl (eqb t.with' e) re
 pub agrees_store : (q : Talk → Bool) (f : Session → Session) (u y : Talk) → y.tags.mine ≡ u.tags.mine → ((t : Session) → SameTalk t u → SameTalk (f t) y) →
     (ts : List Session) (us : List (Option Talk)) → Agrees ts us → Distinct SameTag ts → first_that q us ≡ Some u → Agrees (change u.tags.mine f ts) (replaced (same_tag y) y us)
 unfolding Agrees first_that change replaced Distinct
-agrees_store q f u y same to [] us a d e = absurd (not_same u (sym (vacant_first q us a) ∙ e))
+agrees_store q f u y same to [] us a d e = absurd (cc (vacant_first q us a))
 agrees_store q f u y same to (t ∷ ts) [] a d e = absurd a
 agrees_store q f u y same to (t ∷ ts) (None ∷ us) a d e = absurd a
 agrees_store q f u y same to (t ∷ ts) (Some v ∷ us) a d e = go (q v) refl e (λ k. agrees_store q f u y same to ts us a.1 d.1 k)
@@ -276,7 +270,7 @@ agrees_two ts [] l e a = absurd (omega arith)
 agrees_two ts (x ∷ []) l e a = absurd (omega arith)
 agrees_two ts (x ∷ y ∷ []) l e a = absurd (omega arith)
 agrees_two ts (x ∷ y ∷ z ∷ w ∷ us) l e a = absurd (omega arith)
-agrees_two ts (x ∷ y ∷ Some v ∷ []) l e a = absurd (not_same v (sym e))
+agrees_two ts (x ∷ y ∷ Some v ∷ []) l e a = absurd (cc)
 agrees_two [] (None ∷ None ∷ None ∷ []) l e a = tt
 agrees_two [] (None ∷ Some y ∷ None ∷ []) l e a = absurd a
 agrees_two [] (Some x ∷ y ∷ None ∷ []) l e a = absurd a
@@ -307,7 +301,7 @@ agrees_drop ts [] v l e a d = absurd (omega arith)
 agrees_drop ts (x ∷ []) v l e a d = absurd (omega arith)
 agrees_drop ts (x ∷ y ∷ []) v l e a d = absurd (omega arith)
 agrees_drop ts (x ∷ y ∷ z ∷ w ∷ us) v l e a d = absurd (omega arith)
-agrees_drop ts (x ∷ y ∷ None ∷ []) v l e a d = absurd (not_same v e)
+agrees_drop ts (x ∷ y ∷ None ∷ []) v l e a d = absurd (cc)
 agrees_drop [] (None ∷ None ∷ Some z ∷ []) v l e a d = absurd a
 agrees_drop [] (None ∷ Some y ∷ Some z ∷ []) v l e a d = absurd a
 agrees_drop [] (Some x ∷ y ∷ Some z ∷ []) v l e a d = absurd a

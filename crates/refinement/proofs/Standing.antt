@@ -1,6 +1,7 @@
 -- A memory goes on standing for its gate when one peer's part of both changes. Assumes nothing.
 use Rattle.std.proofs.Common.{◌≡◌, ℕ, zero, suc, ◌%◌, ◌<◌, ◌≤◌, Bool, true, false, cond, not, ◌&&◌, eqb, ltb, List, [], ◌∷◌, length, get_or, take, set, Some, None, Option, sym, refl, ap, ◌∙◌, subst, ⊎_elim, arith, length-set, length-take, get_or-set_other, get_or-set_same}
 use mathlib.Core.List.Memᴰ
+use Rattle.std.proofs.lemmas.List.{get_or_past}
 use Rattle.std.proofs.lemmas.Bool.{cond-true, cond-false, eq-eqb, ne_eqb, and_parts, ltb-true, cases_eq}
 use Rattle.gates.specs.Lists.{In}
 use Rattle.gates.specs.Talk.{Talk as Session, new_talk}
@@ -36,12 +37,8 @@ dropped_in (Some v) ts t i = without_talk_lem v.tags.mine ts t i
 -- the talk in a place stands for one of the abstract gate's
 place_same : (ts : List Session) (us : List (Option Talk)) (i : ℕ) (v : Talk) → get_or us i None ≡ Some v → Agrees ts us → (t : Session) × In t ts × SameTalk t v
 unfolding Agrees Vacant
-place_same ts [] i v e a = absurd (no_talk i e)
-  where
-    no_talk : (k : ℕ) → get_or {A = Option Talk} [] k None ≡ Some v → ⊥
-    no_talk zero h = let z : ◌≡◌ {A = ℕ} 0 1 = cc in omega arith
-    no_talk (suc k) h = let z : ◌≡◌ {A = ℕ} 0 1 = cc in omega arith
-place_same [] (None ∷ us) zero v e a = absurd (let z : ◌≡◌ {A = ℕ} 0 1 = cc in omega arith)
+place_same ts [] i v e a = absurd (cc (get_or_past {X = Option Talk} [] i None (omega arith)))
+place_same [] (None ∷ us) zero v e a = absurd (cc)
 place_same [] (None ∷ us) (suc i) v e a = place_same [] us i v e a
 place_same [] (Some u ∷ us) i v e a = absurd a
 place_same (t ∷ ts) (None ∷ us) i v e a = absurd a

@@ -1,9 +1,9 @@
 -- A word that is brought to a gate does what its delivery does, after a drop where three talks were had. Assumes nothing.
 use Rattle.std.proofs.Common.{◌≡◌, ℕ, zero, suc, ◌<◌, ◌≤◌, Bool, true, false, cond, not, ◌&&◌, ◌||◌, eqb, ltb, leb, List, [], ◌∷◌, ◌++◌, map, get_or, take, is_ok, Some, None, Ok, Err, Option, Result, sym, refl, ap, ◌∙◌, subst, ap₂, le_refl, arith}
 use lib.ListN.{length-map}
-use Rattle.std.proofs.lemmas.Bool.{cond-true, cond-false, eqb-true, eq-eqb, ne_eqb, and_parts, and_from, or_from, ltb-true, lt-ltb, leb-false, lt-leb, not-true, not_from_false}
+use Rattle.std.proofs.lemmas.Bool.{cond-true, cond-false, eqb-true, eq-eqb, ne_eqb, and_parts, and_from, or_from, ltb-true, lt-ltb, leb-false, lt-leb, not-true, not_from_false, both_ways}
 use Rattle.protocol.specs.declared.refusals.Refusal.{Refusal}
-use Rattle.protocol.specs.declared.refusals.Refusal.TheVariants.{WrongGate, ZeroTag, OldHello, UnaskedReply, NoTalk, ForeignAddress, NoDrawnBytes}
+use Rattle.protocol.specs.declared.refusals.Refusal.TheVariants.{WrongGate, ZeroTag, OldHello, UnaskedReply, NoTalk, NoDrawnBytes}
 use Rattle.gates.specs.Lists.{In, At}
 use Rattle.gates.specs.Talk.{Rules, Inner, is_in, new_talk, came}
 use Rattle.gates.specs.Talk.{Talk as Session}
@@ -40,9 +40,6 @@ use Rattle.refinement.specs.Calls as calls
 use Rattle.refinement.proofs.Sessions.{comes_both, found_same}
 use Rattle.refinement.proofs.Asking.{any_cleared, waits_without}
 use Rattle.refinement.proofs.Standing.{dropped, stands-met, stands-changed}
-
-differ : (b : Bool) → b ≡ true → b ≡ false → ⊥
-differ b h k = subst (λ (z : Bool). cond z (Unit {0}) ⊥) (sym h ∙ k) tt
 
 module _ (k life most : ℕ) (few : k ≤ 32) (owner : ℕ → ℕ) where
   abbrev r : Rules
@@ -105,16 +102,13 @@ module _ (k life most : ℕ) (few : k ≤ 32) (owner : ℕ → ℕ) where
   roomy es a (Some v) =
       record { gate_so = changed_here a _ (world r es).gates; now_so = refl; net_so = refl; put_so = refl; out_so = refl; drawn_so = refl }
 
-  none-some : (f : Refusal) → ◌≡◌ {A = Option Refusal} (Some f) None → ⊥
-  none-some f e = let z : ◌≡◌ {A = ℕ} 0 1 = cc in omega arith
-
   -- a hello has no fault: each test passed
   pub hello-none : (p z o n : Bool) → cond p (cond z (Some ZeroTag) (cond o (Some OldHello) (cond n (Some NoDrawnBytes) None))) (Some WrongGate) ≡ None →
       (p ≡ true) × (z ≡ false) × (o ≡ false) × (n ≡ false)
-  hello-none false z o n e = absurd (none-some WrongGate e)
-  hello-none true true o n e = absurd (none-some ZeroTag e)
-  hello-none true false true n e = absurd (none-some OldHello e)
-  hello-none true false false true e = absurd (none-some NoDrawnBytes e)
+  hello-none false z o n e = absurd (cc)
+  hello-none true true o n e = absurd (cc)
+  hello-none true false true n e = absurd (cc)
+  hello-none true false false true e = absurd (cc)
   hello-none true false false false e = (refl, refl, refl, refl)
 
   hello-all : (p z o n : Bool) → p ≡ true → z ≡ false → o ≡ false → n ≡ false → cond p (cond z (Some ZeroTag) (cond o (Some OldHello) (cond n (Some NoDrawnBytes) None))) (Some WrongGate) ≡ None
@@ -123,7 +117,7 @@ module _ (k life most : ℕ) (few : k ≤ 32) (owner : ℕ → ℕ) where
   -- the tag that is drawn is new, unless there is none
   drawn-new : (ts : List ℕ) (w : World) → AllNew ts w → eqb (drawn_of ts) 0 ≡ false → is_new (drawn_of ts) w ≡ true
   unfolding AllNew
-  drawn-new [] w n e = absurd (differ (eqb 0 0) refl e)
+  drawn-new [] w n e = absurd (both_ways (eqb 0 0) e refl)
   drawn-new (t ∷ ts) w n e = n.0
 
   new-drawn : (t : ℕ) (w : World) → is_new t w ≡ true → eqb t 0 ≡ false
@@ -204,7 +198,7 @@ module _ (k life most : ℕ) (few : k ≤ 32) (owner : ℕ → ℕ) where
       go (Some e) h = refused es a i drawn x s st p (off (takes r a drawn x w) refl)
         where
           off : (b : Bool) → takes r a drawn x w ≡ b → takes r a drawn x w ≡ false
-          off true t = absurd (none-some e (sym h ∙ no_fault t))
+          off true t = absurd (cc (no_fault t))
           off false t = t
       go None h =
           subst
@@ -247,9 +241,9 @@ module _ (k life most : ℕ) (few : k ≤ 32) (owner : ℕ → ℕ) where
 
   -- a reply has no fault: each test passed
   reply-none : (p z y : Bool) → cond p (cond z (Some ZeroTag) (cond y None (Some UnaskedReply))) (Some WrongGate) ≡ None → (p ≡ true) × (z ≡ false) × (y ≡ true)
-  reply-none false z y e = absurd (none-some WrongGate e)
-  reply-none true true y e = absurd (none-some ZeroTag e)
-  reply-none true false false e = absurd (none-some UnaskedReply e)
+  reply-none false z y e = absurd (cc)
+  reply-none true true y e = absurd (cc)
+  reply-none true false false e = absurd (cc)
   reply-none true false true e = (refl, refl, refl)
 
   reply-all : (p z y : Bool) → p ≡ true → z ≡ false → y ≡ true → cond p (cond z (Some ZeroTag) (cond y None (Some UnaskedReply))) (Some WrongGate) ≡ None
@@ -263,7 +257,7 @@ module _ (k life most : ℕ) (few : k ≤ 32) (owner : ℕ → ℕ) where
   emptied-place t (Some y ∷ ws) zero x e = by (has_tag t y) e
     where
       by : (b : Bool) → cond b None (Some y) ≡ Some x → Some y ≡ Some x
-      by true h = absurd (let z : ◌≡◌ {A = ℕ} 0 1 = cc in omega arith)
+      by true h = absurd (cc)
       by false h = h
   emptied-place t (o ∷ ws) (suc i) x e = emptied-place t ws i x e
 
@@ -337,7 +331,7 @@ module _ (k life most : ℕ) (few : k ≤ 32) (owner : ℕ → ℕ) where
       go (Some e) h = refused es a i drawn x s st p (off (takes r a drawn x w) refl)
         where
           off : (b : Bool) → takes r a drawn x w ≡ b → takes r a drawn x w ≡ false
-          off true t = absurd (none-some e (sym h ∙ no_fault t))
+          off true t = absurd (cc (no_fault t))
           off false t = t
       go None h =
           subst
@@ -387,26 +381,23 @@ module _ (k life most : ℕ) (few : k ≤ 32) (owner : ℕ → ℕ) where
 
   -- a number comes in the talk that was found
   found_ok : (now n : ℕ) (z : Option Talk) → is_ok (found_in now life n z) ≡ true → (u : Talk) × (z ≡ Some u) × (found_in now life n z ≡ Ok u) × (look_bits u.window n ≡ Fresh)
-  found_ok now n None h = absurd (subst (λ (b : Bool). cond b ⊥ (Unit {0})) h tt)
+  found_ok now n None h = absurd (cc)
   found_ok now n (Some u) h = by (lives now life u) h
     where
       verdict : (v : Verdict) → is_ok (by_verdict v u) ≡ true → (by_verdict v u ≡ Ok u) × (v ≡ Fresh)
       verdict Fresh e = (refl, refl)
-      verdict TooOld e = absurd (subst (λ (b : Bool). cond b ⊥ (Unit {0})) e tt)
-      verdict Came e = absurd (subst (λ (b : Bool). cond b ⊥ (Unit {0})) e tt)
+      verdict TooOld e = absurd (cc)
+      verdict Came e = absurd (cc)
 
       by : (b : Bool) → is_ok (cond b (by_verdict (look_bits u.window n) u) (Err NoTalk)) ≡ true →
           (y : Talk) × (Some u ≡ Some y) × (cond b (by_verdict (look_bits u.window n) u) (Err NoTalk) ≡ Ok y) × (look_bits y.window n ≡ Fresh)
       by true e = let z = verdict (look_bits u.window n) e in (u, refl, z.0, z.1)
-      by false e = absurd (subst (λ (b : Bool). cond b ⊥ (Unit {0})) e tt)
-
-  not-ok : {A : Type 0} (f : Refusal) (u : A) → ◌≡◌ {A = Result A Refusal} (Err f) (Ok u) → ⊥
-  not-ok f u e = let z : ◌≡◌ {A = ℕ} 0 1 = cc in omega arith
+      by false e = absurd (cc)
 
   -- a talk was found: each test passed
   pub talk_tests : (p z : Bool) (v : Result Talk Refusal) (u : Talk) → cond p (cond z (Err ZeroTag) v) (Err WrongGate) ≡ Ok u → (p ≡ true) × (z ≡ false) × (v ≡ Ok u)
-  talk_tests false z v u e = absurd (not-ok WrongGate u e)
-  talk_tests true true v u e = absurd (not-ok ZeroTag u e)
+  talk_tests false z v u e = absurd (cc)
+  talk_tests true true v u e = absurd (cc)
   talk_tests true false v u e = (refl, refl, e)
 
   -- the memory after a number came in the talk that was found
@@ -449,16 +440,13 @@ module _ (k life most : ℕ) (few : k ≤ 32) (owner : ℕ → ℕ) where
     pub found : first_that (names h m) (peer_at by s).talks ≡ Some u
     pub fresh : look_bits u.window n ≡ Fresh
 
-  same_ok : {A : Type 0} (x y : A) → ◌≡◌ {A = Result A Refusal} (Ok x) (Ok y) → x ≡ y
-  same_ok x y e = cc
-
   found_talk_lem : (a by f m h n : ℕ) (s : Gateway) (u : Talk) → s.terms.life ≡ life → found_talk by f m h n s ≡ Ok u → Finds' by m h n s u × (eqb f s.own ≡ true)
   found_talk_lem a by f m h n s u life-is e =
       let t = talk_tests (is_peer by s && eqb f s.own) (eqb m 0 || eqb h 0) (found_in s.now s.terms.life n (first_that (names h m) (peer_at by s).talks)) u e in
       let b = and_parts (is_peer by s) (eqb f s.own) t.0 in
       let v : found_in s.now life n (first_that (names h m) (peer_at by s).talks) ≡ Ok u = ap (λ z. found_in s.now z n (first_that (names h m) (peer_at by s).talks)) (sym life-is) ∙ t.2 in
       let o = found_ok s.now n (first_that (names h m) (peer_at by s).talks) (ap is_ok v) in
-      let same : o.0 ≡ u = same_ok o.0 u (sym o.2 ∙ v) in
+      let same : o.0 ≡ u = cc (o.2, v) in
       (record { peer = b.0; found = o.1 ∙ ap Some same; fresh = subst (λ z. look_bits z.window n ≡ Fresh) same o.3 }, b.1)
 
   -- where the abstract gate lets a number come, the code finds its talk
@@ -520,7 +508,7 @@ module _ (k life most : ℕ) (few : k ≤ 32) (owner : ℕ → ℕ) where
           off true t =
               let u = and_parts (eqb f a) (comes_in r (w.now a) by h m n (w.gates a).talks) t in
               let y = finds_talk es a by f m h n x s refl refl kn ((proper r es).no_zero x kn.here) st (eqb-true f a u.0) u.1 in
-              absurd (not-ok e y.0 (sym q ∙ y.1))
+              absurd (cc (y.1))
           off false t = t
       go (Ok u) q =
           subst
@@ -543,8 +531,8 @@ module _ (k life most : ℕ) (few : k ≤ 32) (owner : ℕ → ℕ) where
   -- the parts of a packet's answer
   pub owned_ok : (b : Bool) (v : Result Talk Refusal) (u : Talk) → if_owned b v ≡ Ok u → (b ≡ true) × (v ≡ Ok u)
   owned_ok true (Ok t) u e = (refl, e)
-  owned_ok false (Ok t) u e = absurd (not-ok ForeignAddress u e)
-  owned_ok b (Err f) u e = absurd (not-ok f u e)
+  owned_ok false (Ok t) u e = absurd (cc)
+  owned_ok b (Err f) u e = absurd (cc)
 
   pub packet_so : (es : List Ev) (a by f m h n : ℕ) (y : Inner) (ts : List ℕ) (s : Gateway) (i : ℕ) → GreetsBelow k es → Stands k life most a s ((world r es).now a) ((world r es).gates a) →
       At i (PacketWord by f m h n y) (world r es).net →
@@ -588,7 +576,7 @@ module _ (k life most : ℕ) (few : k ≤ 32) (owner : ℕ → ℕ) where
               let z = finds_talk es a by f m h n x s refl refl kn ((proper r es).no_zero x kn.here) st (eqb-true f a u.0) c.0 in
               let own : owned s.own ≡ true = subst (λ k'. owned k' ≡ true) (sym st.own_so) c.1 in
               let all : packet_talk by f m h n (Some (owner y.from)) (Some (owner y.to)) s ≡ Ok z.0 = ap₂ if_owned own z.1 in
-              absurd (not-ok e z.0 (sym q ∙ all))
+              absurd (cc)
           off false t = t
       go (Ok u) q =
           subst
