@@ -1,5 +1,5 @@
 -- Many gates that run the code, and a net that keeps every word and brings any of them to anybody; and what is promised of them. Assumes nothing.
-use Rattle.std.specs.Prelude.{◌≡◌, ℕ, ◌+◌, ◌-◌, ◌^◌, ◌<◌, ◌≤◌, false, cond, List, [], ◌∷◌, ◌++◌, map, length, get_or, Some, None, Ok, Err, vec_items, Option, Result, ◌≢◌, nat_lt, option_map, unwrap_or, slice_get, slice_index_or, slice_set}
+use Rattle.std.specs.Prelude.{◌≡◌, ℕ, ◌+◌, ◌-◌, ◌^◌, ◌<◌, ◌≤◌, false, cond, List, [], ◌∷◌, ◌++◌, map, length, get_or, Some, None, Ok, Err, vec_items, vec_len, vec_capacity, Option, Result, ◌≢◌, nat_lt, option_map, unwrap_or, slice_get, slice_index_or, slice_set}
 use Rattle.std.specs.List.{range_with_len}
 use Rattle.protocol.specs.declared.refusals.Refusal.{Refusal}
 use Rattle.gates.specs.Lists.{In, At}
@@ -142,6 +142,12 @@ happens owners e b =
 -- the lists in a sea's memory
 abbrev pub books_of : Sea → Books
 books_of s = record { gates = vec_items s.gates; net = vec_items s.net; put = vec_items s.put; out = vec_items s.out }
+
+-- there is room for one letter more in each list
+pub record HasRoom (s : Sea) : Type 0 where
+  pub net : vec_len s.net < vec_capacity s.net
+  pub put : vec_len s.put < vec_capacity s.put
+  pub out : vec_len s.out < vec_capacity s.out
 
 -- The books after a list of events, the earliest first.
 unfoldable pub plays : List ℕ → List Event → Books → Books

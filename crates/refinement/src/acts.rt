@@ -9,6 +9,7 @@ use crate::calls::{greet, put, restart, take, tick};
 use crate::state::{EventKind, Letter, Outcome, Parcel};
 use gateway::{Gateway, Owners, Taken, Word};
 
+// The table goes down as a plain slice: each call may have another one, and a struct round it alone is no plainer.
 /// Who owns an address, by a table; what it lacks is nobody's.
 fn owner_of(owners: &[u8], address: u32) -> Option<u8>
     ensures { result ≡ owner_at owners.now address }
@@ -34,6 +35,7 @@ impl Letter {
         ensures { result ≡ opened owners.now self }
     {
         match self.word {
+            // A packet's letter carries one, so no default is taken: plainer than a second enum of words in which only a packet has it.
             Word::Packet { place, .. } => Word::Packet {
                 place,
                 owners: self.parcel.unwrap_or_default().owners(owners),

@@ -1,4 +1,4 @@
-// The public calls of a gate, each with the events of the abstract protocol that it is. Assumes nothing.
+// The public calls of a gate, each with the events of the abstract protocol that it is. They are functions, since methods of these names are gateway's. Assumes nothing.
 ghost use Rattle.std.specs.Prelude.{◌≡◌, ℕ, ◌^◌, ◌<◌, unwrap_or};
 ghost use Rattle.gates.specs.World.{empty_gate};
 ghost use Rattle.gateway.specs.Steps.{fresh, took, took_after, greet_after, put_after, ticked, restarted};

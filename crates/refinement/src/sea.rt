@@ -1,6 +1,6 @@
 // Gates and a net of words, driven by events; the promise stands on `play`. Assumes that drawn tags are new, where a contract says so.
 ghost use Rattle.std.specs.Prelude.{◌≡◌, ℕ, ◌+◌, ◌<◌, ◌≤◌, true, ◌++◌, length, take as front, is_ok, IfOk, if◌then◌else◌, vec_len, vec_capacity};
-ghost use Rattle.refinement.specs.Sea.{list_of, entered, happens, plays, Plays, Books, books_of, new_gates, Begun, CanOpen};
+ghost use Rattle.refinement.specs.Sea.{list_of, entered, happens, plays, Plays, Books, books_of, HasRoom, new_gates, Begun, CanOpen};
 
 use crate::acts::act;
 use crate::calls::start;
@@ -63,9 +63,7 @@ impl Sea {
     /// Makes room for one letter more in each list. It changes nothing else.
     fn make_room(&mut self) -> Result<(), AllocError>
         ensures same { books_of self.new ≡ books_of self.old }
-        ensures net { is_ok result ≡ true → vec_len self.new.net < vec_capacity self.new.net }
-        ensures put { is_ok result ≡ true → vec_len self.new.put < vec_capacity self.new.put }
-        ensures out { is_ok result ≡ true → vec_len self.new.out < vec_capacity self.new.out }
+        ensures room { is_ok result ≡ true → HasRoom self.new }
     {
         self.net.reserve(1)?;
         self.put.reserve(1)?;
@@ -75,9 +73,7 @@ impl Sea {
     /// Enters what an event did into a gate's memory and the books.
     fn enter(&mut self, at: usize, memory: Gateway, outcome: Outcome)
         requires here { at < vec_len self.old.gates }
-        requires net { vec_len self.old.net < vec_capacity self.old.net }
-        requires put { vec_len self.old.put < vec_capacity self.old.put }
-        requires out { vec_len self.old.out < vec_capacity self.old.out }
+        requires room { HasRoom self.old }
         ensures { books_of self.new ≡ entered at memory outcome (books_of self.old) }
     {
         self.gates[at] = memory;
