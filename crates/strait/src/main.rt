@@ -48,68 +48,28 @@ impl Line {
     }
 }
 
+/// The word at a place of the net is brought, with a tag drawn for a reply, if one was.
+fn brought(place: usize, tag: Option<u64>) -> EventKind {
+    Bring { place, tag }
+}
+
 /// The whole story.
 fn story() -> [Line; 22] {
     [
         Line::new("a tick passes at gate 0", 0, Tick),
         Line::new("gate 0 greets gate 1", 0, Greet { to: 1, tag: 5 }),
-        Line::new(
-            "the hello is brought to gate 1",
-            1,
-            Bring {
-                place: 0,
-                tag: Some(9),
-            },
-        ),
-        Line::new(
-            "the reply is brought to gate 0",
-            0,
-            Bring {
-                place: 1,
-                tag: None,
-            },
-        ),
+        Line::new("the hello is brought to gate 1", 1, brought(0, Some(9))),
+        Line::new("the reply is brought to gate 0", 0, brought(1, None)),
         Line::new("a packet is put in at gate 0", 0, Put(RAMP)),
-        Line::new(
-            "it is brought to gate 1",
-            1,
-            Bring {
-                place: 2,
-                tag: None,
-            },
-        ),
-        Line::new(
-            "it is brought to gate 1 again",
-            1,
-            Bring {
-                place: 2,
-                tag: None,
-            },
-        ),
-        Line::new(
-            "it is brought to gate 2",
-            2,
-            Bring {
-                place: 2,
-                tag: None,
-            },
-        ),
+        Line::new("it is brought to gate 1", 1, brought(2, None)),
+        Line::new("it is brought to gate 1 again", 1, brought(2, None)),
+        Line::new("it is brought to gate 2", 2, brought(2, None)),
         Line::new("gate 1 is switched off and on", 1, Restart),
-        Line::new(
-            "the kept packet is brought to gate 1",
-            1,
-            Bring {
-                place: 2,
-                tag: None,
-            },
-        ),
+        Line::new("the kept packet is brought to gate 1", 1, brought(2, None)),
         Line::new(
             "the kept hello is brought to gate 1",
             1,
-            Bring {
-                place: 0,
-                tag: Some(10),
-            },
+            brought(0, Some(10)),
         ),
         Line::new(
             "a packet is put in at gate 0, which is still sure",
@@ -119,46 +79,19 @@ fn story() -> [Line; 22] {
         Line::new(
             "it is brought to gate 1, which has forgotten",
             1,
-            Bring {
-                place: 3,
-                tag: None,
-            },
+            brought(3, None),
         ),
         Line::new("a tick passes at gate 0", 0, Tick),
         Line::new("gate 0 greets gate 1", 0, Greet { to: 1, tag: 6 }),
-        Line::new(
-            "the hello is brought to gate 1",
-            1,
-            Bring {
-                place: 4,
-                tag: Some(11),
-            },
-        ),
-        Line::new(
-            "the reply is brought to gate 0",
-            0,
-            Bring {
-                place: 5,
-                tag: None,
-            },
-        ),
+        Line::new("the hello is brought to gate 1", 1, brought(4, Some(11))),
+        Line::new("the reply is brought to gate 0", 0, brought(5, None)),
         Line::new(
             "the kept packet is brought to gate 1 once more",
             1,
-            Bring {
-                place: 2,
-                tag: None,
-            },
+            brought(2, None),
         ),
         Line::new("a packet is put in at gate 0", 0, Put(RAMP)),
-        Line::new(
-            "it is brought to gate 1",
-            1,
-            Bring {
-                place: 6,
-                tag: None,
-            },
-        ),
+        Line::new("it is brought to gate 1", 1, brought(6, None)),
         Line::new(
             "a packet under gate 2's name is put in at gate 0",
             0,
@@ -167,10 +100,7 @@ fn story() -> [Line; 22] {
         Line::new(
             "a word that is not there is brought to gate 1",
             1,
-            Bring {
-                place: 7,
-                tag: None,
-            },
+            brought(7, None),
         ),
     ]
 }
