@@ -1,9 +1,7 @@
 -- How a number is read digit by digit. Assumes nothing.
-use Rattle.std.proofs.Common.{◌≡◌, ℕ, ◌+◌, ◌-◌, ◌*◌, ◌<◌, ◌≤◌, Bool, true, false, cond, ◌&&◌, leb, List, length, get_or, drop, Some, None, ap, ◌∙◌, arith}
+use Rattle.std.proofs.Common.{◌≡◌, ℕ, ◌+◌, ◌<◌, ◌≤◌, true, false, cond, List, length, get_or, drop, Some, None, ap}
 use Rattle.std.proofs.lemmas.List.{drop_more, drop_all}
-use Rattle.std.proofs.lemmas.Bool.Decides.{nat_tests}
-use Rattle.std.specs.Char.{is_ascii_digit}
-use Rattle.addresses.specs.Numbers.{digits_from, unfit, number_read}
+use Rattle.addresses.specs.Numbers.{and_then, digit_added, digits_from, unfit, number_read}
 
 pub unfit_none : (limit : ℕ) (t : List ℕ) → unfit t ≡ true → number_read limit t ≡ None
 unfolding number_read
@@ -14,21 +12,8 @@ unfolding number_read
 fit_is limit t ok = ap (λ b. cond b None (digits_from limit 0 t)) ok
 
 -- by the byte at a place
-module _ (limit n : ℕ) (t : List ℕ) (at : ℕ) (more : at < length t) where
-  abbrev pub next : ℕ
-  next = n * 10 + (get_or t at 0 - 48)
-
-  step : (b : Bool) → (is_ascii_digit (get_or t at 0) && leb next limit) ≡ b → digits_from limit n (drop at t) ≡ cond b (digits_from limit next (drop (at + 1) t)) None
-  step b is = ap (digits_from limit n) (drop_more t at 0 more) ∙ ap (λ q. cond q (digits_from limit next (drop (at + 1) t)) None) is
-
-  pub digit_bad : is_ascii_digit (get_or t at 0) ≡ false → digits_from limit n (drop at t) ≡ None
-  digit_bad bad = step false (grind (arith, nat_tests))
-
-  pub digit_over : limit < next → digits_from limit n (drop at t) ≡ None
-  digit_over over = step false (grind (arith, nat_tests))
-
-  pub digit_more : is_ascii_digit (get_or t at 0) ≡ true → next ≤ limit → digits_from limit n (drop at t) ≡ digits_from limit next (drop (at + 1) t)
-  digit_more good fits = step true (grind (arith, nat_tests))
+pub digit_next : (limit n : ℕ) (t : List ℕ) (at : ℕ) → at < length t → digits_from limit n (drop at t) ≡ and_then (digit_added limit n (get_or t at 0)) (λ m. digits_from limit m (drop (at + 1) t))
+digit_next limit n t at more = ap (digits_from limit n) (drop_more t at 0 more)
 
 pub digit_end : (limit n : ℕ) (t : List ℕ) (at : ℕ) → length t ≤ at → digits_from limit n (drop at t) ≡ Some n
 digit_end limit n t at end = ap (digits_from limit n) (drop_all at t end)

@@ -1,4 +1,5 @@
 pub mod Cutting
+pub mod Giving
 mod Digits
 mod Parts
 pub mod Back

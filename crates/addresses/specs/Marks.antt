@@ -1,32 +1,20 @@
--- A text cut into parts at its marks. Assumes nothing.
+-- A text cut at its first mark. Assumes nothing.
 use Rattle.std.specs.Prelude.{ℕ, Bool, cond, List, [], ◌∷◌, Some, None, Option, ◌==◌}
-use Rattle.std.specs.Char.{is_ascii_whitespace}
-use Rattle.addresses.specs.declared.marks.Mark.{Mark}
-use Rattle.addresses.specs.declared.marks.Mark.TheVariants.{Dot, Slash, Blank, LineFeed}
 
--- whether a byte is a mark
-abbrev pub marks : Mark → ℕ → Bool
-marks Dot b = b == 46
-marks Slash b = b == 47
-marks Blank b = is_ascii_whitespace b
-marks LineFeed b = b == 10
+-- whether a byte is the dot between the bytes of an address
+abbrev pub dot : ℕ → Bool
+dot b = b == 46
 
--- what stands before the first mark; all where there is none
-abbrev pub front : Mark → List ℕ → List ℕ
-front m [] = []
-front m (b ∷ bs) = cond (marks m b) [] (b ∷ front m bs)
+-- whether a byte is the slash before the length of a prefix
+abbrev pub slash : ℕ → Bool
+slash b = b == 47
 
--- what stands behind the first mark
-abbrev pub behind : Mark → List ℕ → Option (List ℕ)
-behind m [] = None
-behind m (b ∷ bs) = cond (marks m b) (Some bs) (behind m bs)
+-- what stands before the first byte that is a mark; all where there is none
+abbrev pub front : (ℕ → Bool) → List ℕ → List ℕ
+front mark [] = []
+front mark (b ∷ bs) = cond (mark b) [] (b ∷ front mark bs)
 
--- a byte before the first of some parts
-abbrev pub onto : ℕ → List (List ℕ) → List (List ℕ)
-onto b [] = (b ∷ []) ∷ []
-onto b (p ∷ ps) = (b ∷ p) ∷ ps
-
--- all the parts between marks, empty ones too: one more than there are marks
-abbrev pub pieces : Mark → List ℕ → List (List ℕ)
-pieces m [] = [] ∷ []
-pieces m (b ∷ bs) = cond (marks m b) ([] ∷ pieces m bs) (onto b (pieces m bs))
+-- what stands behind the first byte that is a mark
+abbrev pub behind : (ℕ → Bool) → List ℕ → Option (List ℕ)
+behind mark [] = None
+behind mark (b ∷ bs) = cond (mark b) (Some bs) (behind mark bs)

@@ -7,5 +7,5 @@ mod marks;
 mod numbers;
 
 pub use dotted::{Prefix, read_address, read_prefix, texts_give_back};
-pub use marks::{Mark, cut};
+pub use marks::cut;
 pub use numbers::read_number;

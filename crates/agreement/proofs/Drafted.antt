@@ -1,22 +1,21 @@
 -- A plan that is read from a text is allowed. Assumes nothing.
-use Rattle.std.proofs.Common.{◌≡◌, ℕ, ◌+◌, ◌^◌, ◌<◌, Bool, true, false, cond, eqb, List, [], ◌∷◌, get_or, is_some, Some, None, Ok, Err, codes, Option, Result, refl, ap, ◌∙◌, subst, arith}
+use Rattle.std.proofs.Common.{◌≡◌, ℕ, ◌+◌, ◌^◌, ◌<◌, ◌≤◌, Bool, true, false, cond, eqb, List, [], ◌∷◌, get_or, is_some, Some, None, Ok, Err, codes, Option, Result, refl, ap, ◌∙◌, subst, arith}
+use Rattle.std.specs.List.{slice_split}
 use Rattle.std.specs.Str.{bytes_eq}
 use Rattle.protocol.specs.Limits.{life_least, most_least}
-use Rattle.addresses.specs.declared.marks.Mark.TheVariants.{LineFeed}
 use Rattle.addresses.specs.Dotted.{address_read, prefix_read}
-use Rattle.addresses.specs.Marks.{pieces}
 use Rattle.addresses.specs.Numbers.{number_read}
 use Rattle.addresses.proofs.Back.{texts_back}
-use Rattle.settings.specs.declared.faults.Fault.{Fault}
 use Rattle.settings.specs.declared.plans.Plan.{Plan}
 use Rattle.settings.specs.Plans.{new_plan, add_to}
 use Rattle.draft.specs.declared.drafts.Draft.{Draft}
 use Rattle.draft.specs.declared.faults.TextFault.{TextFault}
-use Rattle.draft.specs.declared.faults.TextFault.TheVariants.{Columns, NotNumber, Twice, NotNext, NotPrefix, NotAddress}
-use Rattle.draft.specs.Drafts.{and_then, allowed, or_else, empty_draft, life_taken, most_taken, begun_by, begun, numbered, next_gate, new_name, grown, gate_taken, setting_taken, columns_taken, line_taken}
+use Rattle.draft.specs.declared.faults.TextFault.TheVariants.{Columns, NotNumber, NotNext, NotPrefix, NotAddress}
+use Rattle.draft.specs.Drafts.{and_then, allowed, empty_draft, once_read, life_taken, most_taken, begun_by, begun, numbered, next_gate, new_name, grown, gate_taken, setting_taken, columns_taken, line_taken}
 use Rattle.draft.specs.Ranges.{range_of}
-use Rattle.draft.specs.Reading.{or_wrong, lines_taken, draft_read}
+use Rattle.draft.specs.Reading.{or_wrong, lines_taken, line_feed, draft_read}
 use Rattle.draft.specs.Words.{words_of}
+use Rattle.draft.proofs.Steps.{done, was_some, was_plan}
 use Rattle.agreement.specs.Drafts.{DraftsAreSound}
 use Rattle.settings.specs.Sound.{SoundPlan}
 use Rattle.agreement.proofs.Growing.{plans_sound}
@@ -26,24 +25,6 @@ record Good (d : Draft) : Type 0 where
   plan : (p : Plan) → d.plan ≡ Some p → SoundPlan p
   most : (m : ℕ) → d.most ≡ Some m → m < 2 ^ 32
 
--- a step that was done, and what it was done after
-record Done {A B : Type 0} (r : Result A TextFault) (next : A → Result B TextFault) (y : B) : Type 0 where
-  value : A
-  was : r ≡ Ok value
-  then : next value ≡ Ok y
-
-done : {A B : Type 0} (r : Result A TextFault) (next : A → Result B TextFault) (y : B) → and_then r next ≡ Ok y → Done r next y
-done (Ok x) next y is = record { value = x; was = refl; then = is }
-done (Err e) next y is = absurd (let z : ◌≡◌ {A = ℕ} 0 1 = cc in omega arith)
-
-was_some : {A : Type 0} (f : TextFault) (o : Option A) (x : A) → or_else f o ≡ Ok x → o ≡ Some x
-was_some f (Some y) x is = let e : y ≡ x = cc in ap Some e
-was_some f None x is = absurd (let z : ◌≡◌ {A = ℕ} 0 1 = cc in omega arith)
-
-was_plan : (r : Result Plan Fault) (p : Plan) → allowed r ≡ Ok p → r ≡ Ok p
-was_plan (Ok q) p is = let e : q ≡ p = cc in ap Ok e
-was_plan (Err e) p is = absurd (let z : ◌≡◌ {A = ℕ} 0 1 = cc in omega arith)
-
 -- a draft with its life, and with its most
 abbrev lived : Draft → ℕ → Draft
 lived d n = record { life = Some n; most = d.most; plan = d.plan; names = d.names }
@@ -51,34 +32,31 @@ lived d n = record { life = Some n; most = d.most; plan = d.plan; names = d.name
 abbrev limited : Draft → ℕ → Draft
 limited d n = record { life = d.life; most = Some n; plan = d.plan; names = d.names }
 
+-- a number that was read once is within its limit
+once_fits : (twice : Bool) (limit n : ℕ) (w : List ℕ) → limit < 2 ^ 64 → once_read twice limit w ≡ Ok n → n ≤ limit
+once_fits true limit n w small is = absurd (let z : ◌≡◌ {A = ℕ} 0 1 = cc in omega arith)
+once_fits false limit n w small is = (texts_back.number_is limit n w small (was_some NotNumber (number_read limit w) n is)).1
+
 life_good : (w : List ℕ) (d e : Draft) → Good d → life_taken w d ≡ Ok e → Good e
 unfolding life_taken
-life_good w d e good is = by (is_some d.life) is
-  where
-    by : (b : Bool) → cond b (Err Twice) (and_then (or_else NotNumber (number_read 65535 w)) (λ n. and_then (allowed (new_plan n most_least)) (λ _. Ok (record { life = Some n; most = d.most; plan = d.plan; names = d.names })))) ≡ Ok e → Good e
-    by true same = absurd (let z : ◌≡◌ {A = ℕ} 0 1 = cc in omega arith)
-    by false same =
-        let one = done (or_else NotNumber (number_read 65535 w)) (λ n. and_then (allowed (new_plan n most_least)) (λ _. Ok (lived d n))) e same in
-        let two = done (allowed (new_plan one.value most_least)) (λ _. Ok (lived d one.value)) e one.then in
-        let is' : lived d one.value ≡ e = cc two.then in
-        let plan : d.plan ≡ e.plan = ap (λ (x : Draft). x.plan) is' in
-        let most : d.most ≡ e.most = ap (λ (x : Draft). x.most) is' in
-        record { plan = λ p has. good.plan p (plan ∙ has); most = λ m has. good.most m (most ∙ has) }
+life_good w d e good is =
+    let one = done (once_read (is_some d.life) 65535 w) (λ n. and_then (allowed (new_plan n most_least)) (λ _. Ok (lived d n))) e is in
+    let two = done (allowed (new_plan one.value most_least)) (λ _. Ok (lived d one.value)) e one.then in
+    let is' : lived d one.value ≡ e = cc two.then in
+    let plan : d.plan ≡ e.plan = ap (λ (x : Draft). x.plan) is' in
+    let most : d.most ≡ e.most = ap (λ (x : Draft). x.most) is' in
+    record { plan = λ p has. good.plan p (plan ∙ has); most = λ m has. good.most m (most ∙ has) }
 
 most_good : (w : List ℕ) (d e : Draft) → Good d → most_taken w d ≡ Ok e → Good e
 unfolding most_taken
-most_good w d e good is = by (is_some d.most) is
-  where
-    by : (b : Bool) → cond b (Err Twice) (and_then (or_else NotNumber (number_read 4294967295 w)) (λ n. and_then (allowed (new_plan life_least n)) (λ _. Ok (record { life = d.life; most = Some n; plan = d.plan; names = d.names })))) ≡ Ok e → Good e
-    by true same = absurd (let z : ◌≡◌ {A = ℕ} 0 1 = cc in omega arith)
-    by false same =
-        let one = done (or_else NotNumber (number_read 4294967295 w)) (λ n. and_then (allowed (new_plan life_least n)) (λ _. Ok (limited d n))) e same in
-        let two = done (allowed (new_plan life_least one.value)) (λ _. Ok (limited d one.value)) e one.then in
-        let is' : limited d one.value ≡ e = cc two.then in
-        let plan : d.plan ≡ e.plan = ap (λ (x : Draft). x.plan) is' in
-        let most : Some one.value ≡ e.most = ap (λ (x : Draft). x.most) is' in
-        let small = texts_back.number_is 4294967295 one.value w (omega arith) (was_some NotNumber (number_read 4294967295 w) one.value one.was) in
-        record { plan = λ p has. good.plan p (plan ∙ has); most = λ m has. let same' : one.value ≡ m = cc (most ∙ has) in omega (arith, small.1, same') }
+most_good w d e good is =
+    let one = done (once_read (is_some d.most) 4294967295 w) (λ n. and_then (allowed (new_plan life_least n)) (λ _. Ok (limited d n))) e is in
+    let two = done (allowed (new_plan life_least one.value)) (λ _. Ok (limited d one.value)) e one.then in
+    let is' : limited d one.value ≡ e = cc two.then in
+    let plan : d.plan ≡ e.plan = ap (λ (x : Draft). x.plan) is' in
+    let most : Some one.value ≡ e.most = ap (λ (x : Draft). x.most) is' in
+    let small = once_fits (is_some d.most) 4294967295 one.value w (omega arith) one.was in
+    record { plan = λ p has. good.plan p (plan ∙ has); most = λ m has. let same' : one.value ≡ m = cc (most ∙ has) in omega (arith, small, same') }
 
 begun_good : (d : Draft) (p : Plan) → Good d → begun d ≡ Ok p → SoundPlan p
 unfolding begun
@@ -117,7 +95,7 @@ gate_good : (n w p o : List ℕ) (d e : Draft) → Good d → gate_taken n w p o
 unfolding gate_taken
 gate_good n w p o d e good is =
     let one = done (next_gate n d) _ e is in
-    let two = done (new_name d one.value.gates w) _ e one.then in
+    let two = done (new_name d w) _ e one.then in
     let three = done (grown one.value p o) _ e two.then in
     let plan : Some three.value ≡ e.plan = cc three.then in
     let most : d.most ≡ e.most = cc three.then in
@@ -158,7 +136,7 @@ lines_good n (l ∷ ls) d e good is = by (line_taken (words_of l) d) refl (λ f 
 
 pub drafts_sound : DraftsAreSound
 unfolding draft_read
-drafts_sound text d p read has = (lines_good 0 (pieces LineFeed text) empty_draft d start read).plan p has
+drafts_sound text d p read has = (lines_good 0 (slice_split line_feed text) empty_draft d start read).plan p has
   where
     start : Good empty_draft
     start = record { plan = λ q none. absurd (let z : ◌≡◌ {A = ℕ} 0 1 = cc in omega arith); most = λ m none. absurd (let z : ◌≡◌ {A = ℕ} 0 1 = cc in omega arith) }

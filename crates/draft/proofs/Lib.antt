@@ -1,3 +1,4 @@
-mod Named
+pub mod Steps
+mod Gated
 mod Worded
 mod Lines

@@ -1,31 +1,69 @@
 -- The lines of a text, one after another. Assumes nothing.
-use Rattle.std.proofs.Common.{◌≡◌, ℕ, ◌+◌, List, [], ◌∷◌, length, Some, None, Ok, Err, sym, refl, ap, ◌∙◌, arith}
-use Rattle.addresses.specs.declared.marks.Mark.TheVariants.{LineFeed}
-use Rattle.addresses.specs.Marks.{front, behind, pieces}
-use Rattle.addresses.proofs.Cutting.{others, pieces_are}
+use Rattle.std.proofs.Common.{◌≡◌, ℕ, ◌+◌, List, [], ◌∷◌, Some, None, Ok, Err, Option, Result, sym, ap, ◌∙◌, arith}
+use Rattle.std.proofs.lemmas.Iterator.{YieldsList}
+use Rattle.std.specs.List.{enumerate_from}
+use Rattle.std.specs.Result.{MatchResult, IsErrAnd}
 use Rattle.draft.specs.declared.drafts.Draft.{Draft}
 use Rattle.draft.specs.declared.faults.TextFault.{TextFault}
+use Rattle.draft.specs.declared.faults.Wrong.{Wrong}
 use Rattle.draft.specs.Drafts.{line_taken}
 use Rattle.draft.specs.Reading.{or_wrong, lines_taken}
 use Rattle.draft.specs.Words.{words_of}
 
--- no bytes are no lines that matter
-pub line-end : (n : ℕ) (t : List ℕ) (d : Draft) → length t ≡ 0 → lines_taken n (pieces LineFeed t) d ≡ Ok d
-unfolding words_of
-line-end n [] d empty = refl
-line-end n (b ∷ bs) d empty = absurd (omega arith)
+-- an iterator over numbered lines has these left, after so many
+abbrev pub Numbered : {S A : Type 0} → (S → Option (ℕ × A) → S → Type 0) → (A → List ℕ) → S → ℕ → List (List ℕ) → Type 0
+Numbered steps v s before lines = YieldsList {B = ℕ × List ℕ} steps (λ p. (p.0, v p.1)) s (enumerate_from before lines)
 
-module _ (n : ℕ) (t : List ℕ) (d : Draft) where
-  -- the first line, and then the others
-  first : lines_taken n (pieces LineFeed t) d ≡ or_wrong n (line_taken (words_of (front LineFeed t)) d) (lines_taken (n + 1) (others LineFeed (behind LineFeed t)))
-  first = ap (λ ps. lines_taken n ps d) (pieces_are LineFeed t)
+-- what it has left makes of a draft what the text says
+pub record Rest {S A : Type 0} (steps : S → Option (ℕ × A) → S → Type 0) (v : A → List ℕ) (s : S) (d : Draft) (r : Result Draft Wrong) : Type 0 where
+  pub before : ℕ
+  pub lines : List (List ℕ)
+  pub yields : Numbered steps v s before lines
+  pub read : lines_taken before lines d ≡ r
 
-  pub line_bad : (e : TextFault) → line_taken (words_of (front LineFeed t)) d ≡ Err e → lines_taken n (pieces LineFeed t) d ≡ Err (record { line = n + 1; fault = e })
-  line_bad e bad = first ∙ ap (λ r. or_wrong n r (lines_taken (n + 1) (others LineFeed (behind LineFeed t)))) bad
+module _ {S A : Type 0} {steps : S → Option (ℕ × A) → S → Type 0} {v : A → List ℕ} {s : S} {d : Draft} {r : Result Draft Wrong} where
+  -- no line is left
+  pub line_end : {t : S} → Rest steps v s d r → steps s None t → Ok d ≡ r
+  line_end {t = t} rest step = by rest.lines rest.yields rest.read
+    where
+      by : (ls : List (List ℕ)) → Numbered steps v s rest.before ls → lines_taken rest.before ls d ≡ r → Ok d ≡ r
+      by [] yields read = read
+      by (l ∷ ls) yields read = absurd (yields.runs.0 t step)
 
-  pub line_more : (next : Draft) (u : List ℕ) → line_taken (words_of (front LineFeed t)) d ≡ Ok next → behind LineFeed t ≡ Some u → lines_taken n (pieces LineFeed t) d ≡ lines_taken (n + 1) (pieces LineFeed u) next
-  line_more next u good some = first ∙ (λ i. or_wrong n (good i) (lines_taken (n + 1) (others LineFeed (some i))))
+  -- the next line, and what is left behind it
+  line_next : {t : S} {x : ℕ × A} (rest : Rest steps v s d r) → steps s (Some x) t → (lines : List (List ℕ)) × Numbered steps v t (rest.before + 1) lines × (x.0 ≡ rest.before) × (or_wrong rest.before (line_taken (words_of (v x.1)) d) (lines_taken (rest.before + 1) lines) ≡ r)
+  line_next {t = t} {x = x} rest step = by rest.lines rest.yields rest.read
+    where
+      by : (ls : List (List ℕ)) → Numbered steps v s rest.before ls → lines_taken rest.before ls d ≡ r → (lines : List (List ℕ)) × Numbered steps v t (rest.before + 1) lines × (x.0 ≡ rest.before) × (or_wrong rest.before (line_taken (words_of (v x.1)) d) (lines_taken (rest.before + 1) lines) ≡ r)
+      by [] yields read = absurd (yields.runs x t step)
+      by (l ∷ ls) yields read =
+          let was = yields.runs.1 x t step in
+          let line : v x.1 ≡ l = ap (λ (p : ℕ × List ℕ). p.1) was.0 in (
+            ls,
+            record { runs = was.1 },
+            ap (λ (p : ℕ × List ℕ). p.0) was.0,
+            ap (λ w. or_wrong rest.before (line_taken (words_of w) d) (lines_taken (rest.before + 1) ls)) line ∙ read,
+          )
 
-  pub line_last : (next : Draft) (u : List ℕ) → line_taken (words_of (front LineFeed t)) d ≡ Ok next → behind LineFeed t ≡ None → length u ≡ 0 → lines_taken n (pieces LineFeed t) d ≡ lines_taken (n + 1) (pieces LineFeed u) next
-  line_last next u good none empty =
-      first ∙ (λ i. or_wrong n (good i) (lines_taken (n + 1) (others LineFeed (none i)))) ∙ sym (line-end (n + 1) u next empty)
+  -- a line that is wrong
+  pub line_wrong : {t : S} {x : ℕ × A} {e : TextFault} → Rest steps v s d r → steps s (Some x) t → Err e ≡ line_taken (words_of (v x.1)) d → Err (record { line = x.0 + 1; fault = e }) ≡ r
+  line_wrong {e = e} rest step wrong =
+      let next = line_next rest step in
+      (λ i. Err (record { line = next.2 i + 1; fault = e })) ∙ ap (λ q. or_wrong rest.before q (lines_taken (rest.before + 1) next.0)) wrong ∙ next.3
+
+  -- a line that was taken
+  pub line_right : {t : S} {x : ℕ × A} {e : Draft} → Rest steps v s d r → steps s (Some x) t → Ok e ≡ line_taken (words_of (v x.1)) d → Rest steps v t e r
+  line_right rest step right =
+      let next = line_next rest step in
+      record {
+        before = rest.before + 1;
+        lines = next.0;
+        yields = next.1;
+        read = ap (λ q. or_wrong rest.before q (lines_taken (rest.before + 1) next.0)) right ∙ next.3;
+      }
+
+  -- the same, by what was made of its fault
+  pub line_failed : {t : S} {x : ℕ × A} {P : TextFault → Wrong → Type 0} (taken : Result Draft TextFault) (made : Result Draft Wrong) (w : Wrong) → Rest steps v s d r → steps s (Some x) t → taken ≡ line_taken (words_of (v x.1)) d → MatchResult taken (λ y. made ≡ Ok y) (λ e. IsErrAnd made (P e)) → ((e : TextFault) (u : Wrong) → P e u → u ≡ record { line = x.0 + 1; fault = e }) → made ≡ Err w → Err w ≡ r
+  line_failed (Ok y) made w rest step is told says wrong = absurd (let z : ◌≡◌ {A = ℕ} 0 1 = cc in omega arith)
+  line_failed (Err e) (Ok y) w rest step is told says wrong = absurd told
+  line_failed (Err e) (Err u) w rest step is told says wrong = let same : u ≡ w = cc in ap Err (sym same ∙ says e u told) ∙ line_wrong rest step is

@@ -1,5 +1,5 @@
 -- What each line of a plan's text adds to what was read before it. Assumes nothing.
-use Rattle.std.specs.Prelude.{ℕ, cond, List, [], ◌∷◌, replicate, is_some, Some, None, Ok, Err, codes, Option, Result, ◌==◌, slice_index, slice_set}
+use Rattle.std.specs.Prelude.{ℕ, Bool, cond, List, [], ◌∷◌, ◌++◌, is_some, ok_or, Some, None, Ok, Err, codes, Option, Result, ◌==◌, slice_index}
 use Rattle.std.specs.Str.{bytes_eq}
 use Rattle.protocol.specs.Limits.{life_least, most_least}
 use Rattle.addresses.specs.Dotted.{address_read, prefix_read}
@@ -11,7 +11,7 @@ use Rattle.draft.specs.declared.drafts.Draft.{Draft}
 use Rattle.draft.specs.declared.faults.TextFault.{TextFault}
 use Rattle.draft.specs.declared.faults.TextFault.TheVariants.{Columns, NotNumber, Twice, TooEarly, NotNext, NotName, SameName, NotPrefix, NotAddress, Refused}
 use Rattle.draft.specs.declared.names.Name.{Name}
-use Rattle.draft.specs.Names.{blank_name, name_read, named_below}
+use Rattle.draft.specs.Names.{name_read, named}
 use Rattle.draft.specs.Ranges.{range_of}
 
 -- a step after another: not done where that one failed
@@ -24,30 +24,27 @@ abbrev pub allowed : Result Plan Fault → Result Plan TextFault
 allowed (Ok p) = Ok p
 allowed (Err e) = Err (Refused e)
 
--- something that was read, or else a fault
-abbrev pub or_else : {A : Type 0} → TextFault → Option A → Result A TextFault
-or_else fault (Some x) = Ok x
-or_else fault None = Err fault
-
 -- nothing was read
 abbrev pub empty_draft : Draft
-empty_draft = record { life = None; most = None; plan = None; names = replicate 32 blank_name }
+empty_draft = record { life = None; most = None; plan = None; names = [] }
+
+-- a number that may stand once, up to a limit
+abbrev pub once_read : Bool → ℕ → List ℕ → Result ℕ TextFault
+once_read twice limit w = cond twice (Err Twice) (ok_or (number_read limit w) NotNumber)
 
 -- a line `life TICKS`: once, a number of 16 bits, which is allowed in settings
 unfoldable pub life_taken : List ℕ → Draft → Result Draft TextFault
 life_taken w d =
-    cond (is_some d.life) (Err Twice) (
-    and_then (or_else NotNumber (number_read 65535 w)) (λ n.
+    and_then (once_read (is_some d.life) 65535 w) (λ n.
     and_then (allowed (new_plan n most_least)) (λ _.
-    Ok (record { life = Some n; most = d.most; plan = d.plan; names = d.names }))))
+    Ok (record { life = Some n; most = d.most; plan = d.plan; names = d.names })))
 
 -- a line `most PACKETS`: once, a number of 32 bits, which is allowed in settings
 unfoldable pub most_taken : List ℕ → Draft → Result Draft TextFault
 most_taken w d =
-    cond (is_some d.most) (Err Twice) (
-    and_then (or_else NotNumber (number_read 4294967295 w)) (λ n.
+    and_then (once_read (is_some d.most) 4294967295 w) (λ n.
     and_then (allowed (new_plan life_least n)) (λ _.
-    Ok (record { life = d.life; most = Some n; plan = d.plan; names = d.names }))))
+    Ok (record { life = d.life; most = Some n; plan = d.plan; names = d.names })))
 
 -- a plan that is begun, or a new one by its life and most
 abbrev pub begun_by : Option Plan → Option ℕ → Option ℕ → Result Plan TextFault
@@ -74,28 +71,28 @@ abbrev pub unless_named : Name → Option ℕ → Result Name TextFault
 unless_named n None = Ok n
 unless_named n (Some gate) = Err (SameName gate)
 
--- the name that a word is, where no gate below a number has it
-unfoldable pub new_name : Draft → ℕ → List ℕ → Result Name TextFault
-new_name d gates w = and_then (or_else NotName (name_read w)) (λ n. unless_named n (named_below d.names w gates))
+-- the name that a word is, where no gate has it
+unfoldable pub new_name : Draft → List ℕ → Result Name TextFault
+new_name d w = and_then (ok_or (name_read w) NotName) (λ n. unless_named n (named d.names w))
 
 -- the plan with one gate more, by the texts of its prefix and its address outside
 unfoldable pub grown : Plan → List ℕ → List ℕ → Result Plan TextFault
 grown p prefix outside =
-    and_then (or_else NotPrefix (prefix_read prefix)) (λ q.
-    and_then (or_else NotAddress (address_read outside)) (λ o.
+    and_then (ok_or (prefix_read prefix) NotPrefix) (λ q.
+    and_then (ok_or (address_read outside) NotAddress) (λ o.
     allowed (add_to p (range_of q) o)))
 
--- a draft with another plan, and a name for a gate
-abbrev pub with_gate : Draft → Plan → ℕ → Name → Draft
-with_gate d p gate n = record { life = d.life; most = d.most; plan = Some p; names = slice_set d.names gate n }
+-- a draft with another plan, and the name of its last gate
+abbrev pub with_gate : Draft → Plan → Name → Draft
+with_gate d p n = record { life = d.life; most = d.most; plan = Some p; names = d.names ++ n ∷ [] }
 
 -- a line `NUMBER NAME A.B.C.D/N A.B.C.D`: the next gate, with a name that none before it has
 unfoldable pub gate_taken : List ℕ → List ℕ → List ℕ → List ℕ → Draft → Result Draft TextFault
 gate_taken number name prefix outside d =
     and_then (next_gate number d) (λ p.
-    and_then (new_name d p.gates name) (λ n.
+    and_then (new_name d name) (λ n.
     and_then (grown p prefix outside) (λ q.
-    Ok (with_gate d q p.gates n))))
+    Ok (with_gate d q n))))
 
 -- a line of two words
 unfoldable pub setting_taken : List ℕ → List ℕ → Draft → Result Draft TextFault

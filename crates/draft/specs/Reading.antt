@@ -1,7 +1,6 @@
 -- Which texts are which plan: line after line, to the end or to the first line that is wrong. Assumes nothing.
-use Rattle.std.specs.Prelude.{ℕ, ◌+◌, List, [], ◌∷◌, Ok, Err, Result}
-use Rattle.addresses.specs.declared.marks.Mark.TheVariants.{LineFeed}
-use Rattle.addresses.specs.Marks.{pieces}
+use Rattle.std.specs.Prelude.{ℕ, ◌+◌, Bool, ◌==◌, List, [], ◌∷◌, Ok, Err, Result}
+use Rattle.std.specs.List.{slice_split}
 use Rattle.draft.specs.declared.drafts.Draft.{Draft}
 use Rattle.draft.specs.declared.faults.TextFault.{TextFault}
 use Rattle.draft.specs.declared.faults.Wrong.{Wrong}
@@ -18,6 +17,10 @@ abbrev pub lines_taken : ℕ → List (List ℕ) → Draft → Result Draft Wron
 lines_taken before [] d = Ok d
 lines_taken before (line ∷ rest) d = or_wrong before (line_taken (words_of line) d) (lines_taken (before + 1) rest)
 
+-- whether a byte ends a line
+abbrev pub line_feed : ℕ → Bool
+line_feed b = b == 10
+
 -- the plan that a text says, or its first line that is wrong
 unfoldable pub draft_read : List ℕ → Result Draft Wrong
-draft_read text = lines_taken 0 (pieces LineFeed text) empty_draft
+draft_read text = lines_taken 0 (slice_split line_feed text) empty_draft

@@ -1,14 +1,13 @@
 -- The words of a line: what stands between blanks. Assumes nothing.
-use Rattle.std.specs.Prelude.{ℕ, List, [], ◌∷◌}
-use Rattle.addresses.specs.declared.marks.Mark.TheVariants.{Blank}
-use Rattle.addresses.specs.Marks.{pieces}
+use Rattle.std.specs.Prelude.{ℕ, Bool, true, false, List, [], ◌∷◌, filter}
+use Rattle.std.specs.Char.{is_ascii_whitespace}
+use Rattle.std.specs.List.{slice_split}
 
--- the parts that aren't empty
-abbrev pub non_empty : List (List ℕ) → List (List ℕ)
-non_empty [] = []
-non_empty ([] ∷ ps) = non_empty ps
-non_empty ((b ∷ bs) ∷ ps) = (b ∷ bs) ∷ non_empty ps
+-- whether what stands between blanks is a word: it isn't empty
+abbrev pub is_word : List ℕ → Bool
+is_word [] = false
+is_word (b ∷ bs) = true
 
 -- the words of a line
 unfoldable pub words_of : List ℕ → List (List ℕ)
-words_of line = non_empty (pieces Blank line)
+words_of line = filter is_word (slice_split is_ascii_whitespace line)

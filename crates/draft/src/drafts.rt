@@ -1,25 +1,40 @@
 // A plan as far as its text was read, and what each line adds to it. A line that is refused adds
 // nothing. Assumes nothing.
-ghost use Rattle.std.specs.Prelude.{◌≡◌, ◌≤◌};
-ghost use Rattle.draft.specs.Drafts.{empty_draft, life_taken, most_taken, begun, next_gate, new_name, grown, with_gate, gate_taken, setting_taken, line_taken};
-ghost use Rattle.draft.specs.Names.{name_at};
+ghost use Rattle.std.specs.Prelude.{◌≡◌, ◌≤◌, length, IfOk, slice_get};
+ghost use Rattle.std.specs.Option.{option_map};
+ghost use Rattle.draft.specs.Drafted.{gates_of};
+ghost use Rattle.draft.specs.Drafts.{empty_draft, once_read, life_taken, most_taken, begun, next_gate, new_name, grown, gate_taken, setting_taken, line_taken};
 ghost use Rattle.draft.specs.Ranges.{range_of};
 ghost use Rattle.draft.specs.Words.{words_of};
 
 use crate::faults::TextFault;
-use crate::names::{Name, name_at, named_below};
-use crate::words::{next_word, same};
+use crate::names::{Name, named};
+use crate::words::Words;
 use addresses::{Prefix, read_address, read_number, read_prefix};
+use arrayvec::ArrayVec;
 use protocol::limits::{MIN_LIFE, MIN_MOST};
 use settings::{Plan, Range};
+use std::marker::Model;
 
 /// A plan as far as its text was read, with the names of its gates.
-#[derive(Clone, Copy)]
+#[derive(Drop)]
 pub struct Draft {
     life: Option<u16>,
     most: Option<u32>,
     plan: Option<Plan>,
-    names: [Name; 32],
+    names: ArrayVec<Name, 32>,
+}
+
+// Each gate of the plan has a name.
+impl Model for Draft {
+    ghost use Rattle.std.specs.Prelude.{◌≡◌, length};
+    ghost use Rattle.draft.specs.Drafted.{Drafted, gates_of};
+
+    ghost Value = { Drafted };
+
+    ghost view = { λ d. record { life = d.life; most = d.most; plan = d.plan; names = d.names.items } };
+
+    ghost invariant = { λ d. length d.names.items ≡ gates_of d.plan };
 }
 
 // As many addresses as the prefix has, from its own on. Where bits behind the prefix aren't 0 that
@@ -35,20 +50,25 @@ fn range_of(prefix: Prefix) -> Range
     }
 }
 
+// The number of a line that may stand once, up to a limit.
+fn read_once(twice: bool, word: &[u8], limit: u32) -> Result<u32, TextFault>
+    ensures value { result ≡ once_read twice limit word.now }
+    ensures within { IfOk result (λ n. n ≤ limit) }
+{
+    if twice {
+        return Err(TextFault::Twice);
+    }
+    read_number(word, limit).ok_or(TextFault::NotNumber)
+}
+
 // The plan with one gate more, by the texts of its prefix and its address outside.
+#[tactic(auto, unfolding(crate::specs::Drafts::grown))]
 fn grown(plan: Plan, prefix: &[u8], outside: &[u8]) -> Result<Plan, TextFault>
     ensures { result ≡ grown plan prefix.now outside.now }
 {
-    let Some(prefix) = read_prefix(prefix) else {
-        return Err(TextFault::NotPrefix);
-    };
-    let Some(outside) = read_address(outside) else {
-        return Err(TextFault::NotAddress);
-    };
-    match plan.add(range_of(prefix), outside) {
-        Ok(more) => Ok(more),
-        Err(fault) => Err(TextFault::Refused(fault)),
-    }
+    let prefix = read_prefix(prefix).ok_or(TextFault::NotPrefix)?;
+    let outside = read_address(outside).ok_or(TextFault::NotAddress)?;
+    Ok(plan.add(range_of(prefix), outside)?)
 }
 
 impl Draft {
@@ -60,7 +80,7 @@ impl Draft {
             life: None,
             most: None,
             plan: None,
-            names: [Name::blank(); 32],
+            names: ArrayVec::new(),
         }
     }
 
@@ -71,112 +91,77 @@ impl Draft {
         self.plan
     }
 
-    /// The name of a gate; the blank one for a number that no gate has. It changes nothing.
-    pub fn name(&self, gate: u8) -> Name
-        ensures { result ≡ name_at self.now.names gate }
+    /// The name of a gate, or none for a number that no gate has. It changes nothing.
+    pub fn name(&self, gate: u8) -> Option<&Name>
+        ensures value { option_map (λ n. n.now) result ≡ slice_get self.now.names gate }
+        ensures each { length self.now.names ≡ gates_of self.now.plan }
     {
-        name_at(&self.names, gate)
+        self.names.get(usize::from(gate))
     }
 
     // The draft with its life.
+    #[tactic(auto, unfolding(crate::specs::Drafts::life_taken))]
     fn take_life(mut self, word: &[u8]) -> Result<Draft, TextFault>
         ensures { result ≡ life_taken word.now self }
     {
-        if self.life.is_some() {
-            return Err(TextFault::Twice);
-        }
-        let Some(number) = read_number(word, 65535) else {
-            return Err(TextFault::NotNumber);
-        };
-        match Plan::new(number as u16, MIN_MOST) {
-            Ok(_) => {}
-            Err(fault) => return Err(TextFault::Refused(fault)),
-        }
-        self.life = Some(number as u16);
+        let life = read_once(self.life.is_some(), word, u32::from(u16::MAX))? as u16;
+        Plan::new(life, MIN_MOST)?;
+        self.life = Some(life);
         Ok(self)
     }
 
     // The draft with its most.
+    #[tactic(auto, unfolding(crate::specs::Drafts::most_taken))]
     fn take_most(mut self, word: &[u8]) -> Result<Draft, TextFault>
         ensures { result ≡ most_taken word.now self }
     {
-        if self.most.is_some() {
-            return Err(TextFault::Twice);
-        }
-        let Some(number) = read_number(word, 0xffff_ffff) else {
-            return Err(TextFault::NotNumber);
-        };
-        match Plan::new(MIN_LIFE, number) {
-            Ok(_) => {}
-            Err(fault) => return Err(TextFault::Refused(fault)),
-        }
-        self.most = Some(number);
+        let most = read_once(self.most.is_some(), word, u32::MAX)?;
+        Plan::new(MIN_LIFE, most)?;
+        self.most = Some(most);
         Ok(self)
     }
 
     // The plan to which the next gate is added.
-    fn begun(self) -> Result<Plan, TextFault>
-        ensures { result ≡ begun self }
+    #[tactic(auto, unfolding(crate::specs::Drafts::begun))]
+    fn begun(&self) -> Result<Plan, TextFault>
+        ensures { result ≡ begun self.now }
     {
-        if let Some(plan) = self.plan {
-            return Ok(plan);
-        }
-        let Some(life) = self.life else {
-            return Err(TextFault::TooEarly);
-        };
-        let Some(most) = self.most else {
-            return Err(TextFault::TooEarly);
-        };
-        match Plan::new(life, most) {
-            Ok(plan) => Ok(plan),
-            Err(fault) => Err(TextFault::Refused(fault)),
+        match (self.plan, self.life, self.most) {
+            (Some(plan), _, _) => Ok(plan),
+            (None, Some(life), Some(most)) => Ok(Plan::new(life, most)?),
+            _ => Err(TextFault::TooEarly),
         }
     }
 
     // The plan to which the gate of this number is added, which must be the next one.
     #[tactic(auto, unfolding(crate::specs::Drafts::next_gate))]
-    fn next_gate(self, word: &[u8]) -> Result<Plan, TextFault>
-        ensures { result ≡ next_gate word.now self }
+    fn next_gate(&self, word: &[u8]) -> Result<Plan, TextFault>
+        ensures { result ≡ next_gate word.now self.now }
     {
         let plan = self.begun()?;
         let next = plan.gates();
-        let Some(number) = read_number(word, 255) else {
-            return Err(TextFault::NotNext(next));
-        };
-        if number != u32::from(next) {
-            return Err(TextFault::NotNext(next));
+        match read_number(word, 255) {
+            Some(number) if number == u32::from(next) => Ok(plan),
+            _ => Err(TextFault::NotNext(next)),
         }
-        Ok(plan)
     }
 
-    // The name that a word is, where no gate below a number has it.
-    fn new_name(self, gates: u8, word: &[u8]) -> Result<Name, TextFault>
-        ensures { result ≡ new_name self gates word.now }
+    // The name that a word is, where no gate has it.
+    #[tactic(auto, unfolding(crate::specs::Drafts::new_name))]
+    fn new_name(&self, word: &[u8]) -> Result<Name, TextFault>
+        ensures { result ≡ new_name self.now word.now }
     {
-        let Some(name) = Name::read(word) else {
-            return Err(TextFault::NotName);
-        };
-        match named_below(&self.names, word, gates) {
-            Some(gate) => Err(TextFault::SameName(gate)),
+        let name = Name::read(word).ok_or(TextFault::NotName)?;
+        match named(&self.names, word) {
+            Some(gate) => Err(TextFault::SameName(gate as u8)),
             None => Ok(name),
         }
     }
 
-    // The draft with another plan, and a name for a gate.
-    fn with(mut self, plan: Plan, gate: u8, name: Name) -> Self
-        ensures { result ≡ with_gate self plan gate name }
-    {
-        let at = usize::from(gate);
-        if at < 32 {
-            self.names[at] = name;
-        }
-        self.plan = Some(plan);
-        self
-    }
-
     // The draft with one gate more.
+    #[tactic(auto, using(crate::proofs::Gated::grown_more, crate::proofs::Gated::next_gates), unfolding(crate::specs::Drafts::gate_taken))]
     fn take_gate(
-        self,
+        mut self,
         number: &[u8],
         name: &[u8],
         prefix: &[u8],
@@ -185,47 +170,45 @@ impl Draft {
         ensures { result ≡ gate_taken number.now name.now prefix.now outside.now self }
     {
         let plan = self.next_gate(number)?;
-        let gate = plan.gates();
-        let name = self.new_name(gate, name)?;
+        let name = self.new_name(name)?;
         let more = grown(plan, prefix, outside)?;
-        Ok(self.with(more, gate, name))
+        self.plan = Some(more);
+        self.names.push(name);
+        Ok(self)
     }
 
     // The draft with what a line of two words says.
+    #[tactic(auto, unfolding(crate::specs::Drafts::setting_taken))]
     fn take_setting(self, name: &[u8], value: &[u8]) -> Result<Draft, TextFault>
         ensures { result ≡ setting_taken name.now value.now self }
     {
-        if same(name, b"life") {
-            return self.take_life(value);
+        match name {
+            b"life" => self.take_life(value),
+            b"most" => self.take_most(value),
+            _ => Err(TextFault::Columns),
         }
-        if same(name, b"most") {
-            return self.take_most(value);
-        }
-        Err(TextFault::Columns)
     }
 
     // The draft with what a line says.
     pub(crate) fn take_line(self, line: &[u8]) -> Result<Draft, TextFault>
         ensures { result ≡ line_taken (words_of line.now) self }
     {
-        let Some((first, rest)) = next_word(line) else {
-            return Ok(self);
-        };
-        if first.starts_with(b"#") {
-            return Ok(self);
+        let mut words = Words { rest: line };
+        let columns = [
+            words.next(),
+            words.next(),
+            words.next(),
+            words.next(),
+            words.next(),
+        ];
+        match columns {
+            [None, ..] => Ok(self),
+            [Some(first), ..] if first.starts_with(b"#") => Ok(self),
+            [Some(name), Some(value), None, ..] => self.take_setting(name, value),
+            [Some(number), Some(name), Some(prefix), Some(outside), None] => self.take_gate(
+                number, name, prefix, outside,
+            ),
+            _ => Err(TextFault::Columns),
         }
-        let Some((second, rest)) = next_word(rest) else {
-            return Err(TextFault::Columns);
-        };
-        let Some((third, rest)) = next_word(rest) else {
-            return self.take_setting(first, second);
-        };
-        let Some((fourth, rest)) = next_word(rest) else {
-            return Err(TextFault::Columns);
-        };
-        if next_word(rest).is_some() {
-            return Err(TextFault::Columns);
-        }
-        self.take_gate(first, second, third, fourth)
     }
 }

@@ -1,9 +1,13 @@
 // What can be wrong with a line of a plan, in words that its writer understands. Assumes nothing.
+ghost use Rattle.std.specs.Prelude.{◌≡◌};
+ghost use Rattle.draft.specs.declared.faults.TextFault.TheVariants.{Refused};
+
 use settings::Fault;
+use std::error::Error;
 use std::fmt;
 
 /// What is wrong with a line of a plan.
-#[derive(Clone, Copy)]
+#[derive(Clone, Copy, Debug, PartialEq, Eq)]
 pub enum TextFault {
     /// It is neither life, nor most, nor a gate.
     Columns,
@@ -28,7 +32,7 @@ pub enum TextFault {
 }
 
 /// The first line of a plan's text that is wrong, counted from 1, and what is wrong with it.
-#[derive(Clone, Copy)]
+#[derive(Clone, Copy, Debug, PartialEq, Eq)]
 pub struct Wrong {
     pub line: usize,
     pub fault: TextFault,
@@ -52,3 +56,21 @@ impl fmt::Display for TextFault {
         }
     }
 }
+
+impl Error for TextFault {}
+
+impl From<Fault> for TextFault {
+    ghost from_gives = { λ fault e. e ≡ Refused fault };
+
+    fn from(fault: Fault) -> Self {
+        Self::Refused(fault)
+    }
+}
+
+impl fmt::Display for Wrong {
+    fn fmt<W: fmt::Write>(&self, f: &mut fmt::Formatter<W>) -> fmt::Result {
+        write!(f, "line {}: {}", self.line, self.fault)
+    }
+}
+
+impl Error for Wrong {}

@@ -1,16 +1,16 @@
 // Names of gates, which are names of files too. Assumes nothing.
-ghost use Rattle.std.specs.Prelude.{◌≡◌};
-ghost use Rattle.std.specs.Str.{bytes_eq};
-ghost use Rattle.draft.specs.Names.{name_byte, all_name, blank_name, name_read, name_text, name_at, named_below};
+ghost use Rattle.std.specs.Prelude.{◌≡◌, ◌<◌, length, IfSome};
+ghost use Rattle.std.specs.List.{list_all};
+ghost use Rattle.draft.specs.Names.{name_byte, name_read, name_text, named};
 
-use crate::words::same;
+use arrayvec::ArrayVec;
 use std::fmt;
 
-/// A gate's name: 1 to 32 letters, digits, - and _.
-#[derive(Clone, Copy)]
+/// A gate's name: 1 to 32 letters, digits, - and _. The default one, of no bytes, only stands in a
+/// list's places that are free.
+#[derive(Debug, Default, Drop, PartialEq, Eq)]
 pub struct Name {
-    bytes: [u8; 32],
-    length: u8,
+    bytes: ArrayVec<u8, 32>,
 }
 
 // Whether a byte is a letter, a digit, - or _.
@@ -22,87 +22,38 @@ fn is_name_byte(byte: u8) -> bool
 
 // Whether all bytes are letters, digits, - and _.
 fn all_name(word: &[u8]) -> bool
-    ensures { result ≡ all_name word.now }
+    ensures { result ≡ list_all name_byte word.now }
 {
-    for byte in word {
-        if !is_name_byte(*byte) {
-            return false;
-        }
-    }
-    true
+    word.iter().all(|byte| is_name_byte(*byte))
 }
 
 impl Name {
-    // The name that stands where none was put.
-    pub(crate) fn blank() -> Self
-        ensures { result ≡ blank_name }
-    {
-        Name {
-            bytes: [0; 32],
-            length: 0,
-        }
-    }
-
     // The name that a word is, or none.
+    #[tactic(auto, unfolding(crate::specs::Names::name_read))]
     pub(crate) fn read(word: &[u8]) -> Option<Name>
         ensures { result ≡ name_read word.now }
     {
-        if word.len() > 32 {
-            return None;
-        }
         if !all_name(word) {
             return None;
         }
-        let mut bytes = [0u8; 32];
-        bytes[..word.len()].copy_from_slice(word);
-        Some(Name {
-            bytes,
-            length: word.len() as u8,
-        })
+        let bytes = ArrayVec::try_from(word).ok()?;
+        Some(Name { bytes })
     }
 
     /// The name's bytes. It changes nothing.
     pub fn text(&self) -> &[u8]
         ensures { result.now ≡ name_text self.now }
     {
-        let length = usize::from(self.length);
-        if length < 32 {
-            &self.bytes[..length]
-        } else {
-            &self.bytes
-        }
-    }
-
-    // Whether the name is this word.
-    fn is(&self, word: &[u8]) -> bool
-        ensures { result ≡ bytes_eq (name_text self.now) word.now }
-    {
-        same(self.text(), word)
+        self.bytes.as_slice()
     }
 }
 
-// The name of a gate, or the blank one where there is none.
-pub(crate) fn name_at(names: &[Name], gate: u8) -> Name
-    ensures { result ≡ name_at names.now gate }
+// The first gate that has this name.
+pub(crate) fn named(names: &[Name], word: &[u8]) -> Option<usize>
+    ensures value { result ≡ named names.now word.now }
+    ensures bound { IfSome result (λ gate. gate < length names.now) }
 {
-    let at = usize::from(gate);
-    if at < names.len() {
-        names[at]
-    } else {
-        Name::blank()
-    }
-}
-
-// The first gate below a number that has this name.
-pub(crate) fn named_below(names: &[Name], word: &[u8], gates: u8) -> Option<u8>
-    ensures { result ≡ named_below names.now word.now gates }
-{
-    for gate in 0..gates {
-        if name_at(names, gate).is(word) {
-            return Some(gate);
-        }
-    }
-    None
+    names.iter().position(|name| name.text() == word)
 }
 
 impl fmt::Display for Name {

@@ -1,28 +1,30 @@
 // The words of a line. Assumes nothing.
-ghost use Rattle.std.specs.Prelude.{◌≡◌, [], ◌∷◌, MatchOption};
-ghost use Rattle.std.specs.Str.{bytes_eq};
+ghost use Rattle.std.specs.Prelude.{◌≡◌};
+ghost use Rattle.std.specs.Iterator.{YieldsFirstRef, item_count};
 ghost use Rattle.draft.specs.Words.{words_of};
 
-use addresses::{Mark, cut};
+use addresses::cut;
 
-// Whether two words are the same.
-pub(crate) fn same(word: &[u8], other: &[u8]) -> bool
-    ensures { result ≡ bytes_eq word.now other.now }
-{
-    word == other
+// The words of a line, one after another.
+#[derive(Drop)]
+pub(crate) struct Words<'a> {
+    pub(crate) rest: &'a [u8],
 }
 
-// The first word of a line, and what stands behind it, or none where there is no word.
-pub(crate) fn next_word(line: &[u8]) -> Option<(&[u8], &[u8])>
-    ensures { MatchOption result (words_of line.now ≡ []) (λ x. words_of line.now ≡ x.0.now ∷ words_of x.1.now) }
-{
-    let line = line.trim_ascii_start();
-    if line.is_empty() {
-        return None;
-    }
-    let (word, behind) = cut(line, Mark::Blank);
-    match behind {
-        Some(rest) => Some((word, rest)),
-        None => Some((word, &line[line.len()..])),
+impl<'a> Iterator for Words<'a> {
+    type Item = &'a [u8];
+
+    ghost next_gives = { YieldsFirstRef (λ s. words_of s.rest.now) };
+
+    ghost remaining = { item_count (λ s. words_of s.rest.now) };
+
+    fn next(&mut self) -> Option<&'a [u8]> {
+        let line = self.rest.trim_ascii_start();
+        if line.is_empty() {
+            return None;
+        }
+        let (word, behind) = cut(line, |byte| byte.is_ascii_whitespace());
+        self.rest = behind.unwrap_or(&[]);
+        Some(word)
     }
 }

@@ -1,41 +1,29 @@
-use Rattle.std.proofs.Common.{◌≡◌, ℕ, ◌-◌, ◌<◌, List, length, take, drop, Some, None, Ok, sym, ◌∙◌, arith, rules}
-use Rattle.std.proofs.lemmas.List.{length-take, length-drop}
-use Rattle.std.proofs.lemmas.Bool.Decides.{nat_tests}
-use Rattle.addresses.specs.declared.marks.Mark.TheVariants.{LineFeed}
-use Rattle.addresses.specs.Marks.{front, behind}
-use Rattle.addresses.proofs.Cutting.{behind_shorter}
-use Rattle.draft.specs.Drafts.{line_taken}
-use Rattle.draft.specs.Reading.{draft_read}
-use Rattle.draft.specs.Words.{words_of}
-use Rattle.draft.proofs.Lines.{line-end, line_more, line_last}
+use Rattle.std.proofs.Common.{◌≡◌, Err, ◌∙◌, rules}
+use Rattle.std.specs.List.{slice_split}
+use Rattle.std.proofs.lemmas.Iterator.Consumers.{YieldsList-from_enumerate}
+use Rattle.std.proofs.lemmas.Iterator.Splits.{YieldsList-from_slice_split}
+use Rattle.draft.specs.Reading.{line_feed, draft_read}
+use Rattle.draft.proofs.Lines.{line_end, line_failed, line_right}
 use Rattle.draft.proofs.reading.read.Goals as goal
 
-pub loop-rest-smaller-in-Some : goal.loop-rest-smaller-in-Some
-loop-rest-smaller-in-Some c =
-    let some : behind LineFeed c.loop-rest.rest.now ≡ Some c.in-Some.after.now = search rules in
-    behind_shorter LineFeed c.loop-rest.rest.now c.in-Some.after.now some
+pub loop-before-init : goal.loop-before-init
+unfolding draft_read
+loop-before-init c =
+    record {
+      before = 0;
+      lines = slice_split line_feed c.args.text.now;
+      yields = YieldsList-from_enumerate (YieldsList-from_slice_split _ line_feed c.args.text.now (search rules) (search rules) (search rules) (λ x b q k. search rules)) (search rules);
+      read = search rules;
+    }
 
-pub loop-rest-preserved-in-Some : goal.loop-rest-preserved-in-Some
-loop-rest-preserved-in-Some c =
-    let good : line_taken (words_of (front LineFeed c.loop-rest.rest.now)) c.loop-rest.draft ≡ Ok c.in-Ok.next = search rules in
-    let some : behind LineFeed c.loop-rest.rest.now ≡ Some c.in-Some.after.now = search rules in (
-      sym (line_more c.loop-rest.before c.loop-rest.rest.now c.loop-rest.draft c.in-Ok.next c.in-Some.after.now good some) ∙ c.loop-rest.invariant.0,
-      omega (arith, behind_shorter LineFeed c.loop-rest.rest.now c.in-Some.after.now some, c.loop-rest.invariant.1),
-    )
+pub returns-in_err-draft : goal.returns-in_err-draft
+returns-in_err-draft c =
+    let failed : c.from_residual.result ≡ Err c.in_err-draft.field-0.0 = search rules in
+    failed
+    ∙ line_failed {t = c.next.new.self} {x = (c.in-Some.before, c.in-Some.line)} c.take_line.result c.map_err.result c.in_err-draft.field-0.0 c.loop-before.invariant c.in-Some.ensures.steps (search rules) c.map_err.ensures.cases (λ e u p. search rules) c.in_err-draft.was
 
-pub loop-rest-preserved : goal.loop-rest-preserved
-loop-rest-preserved c =
-    let good : line_taken (words_of (front LineFeed c.loop-rest.rest.now)) c.loop-rest.draft ≡ Ok c.in-Ok.next = search rules in
-    let none : behind LineFeed c.loop-rest.rest.now ≡ None = search rules in
-    let t : List ℕ = c.loop-rest.rest.now in
-    let empty : length (take (length t - length t) (drop (length t) t)) ≡ 0 = simp (length-take, length-drop) (omega arith) in
-    let some : 0 < length t = grind (arith, nat_tests) in (
-      sym (line_last c.loop-rest.before t c.loop-rest.draft c.in-Ok.next (take (length t - length t) (drop (length t) t)) good none empty) ∙ c.loop-rest.invariant.0,
-      omega (arith, empty, some, c.loop-rest.invariant.1),
-    )
+pub loop-before-preserved : goal.loop-before-preserved
+loop-before-preserved c = line_right {x = (c.in-Some.before, c.in-Some.line)} c.loop-before.invariant c.in-Some.ensures.steps (search rules)
 
 pub returns : goal.returns
-unfolding draft_read
-returns c =
-    let empty : length c.loop-rest.rest.now ≡ 0 = grind (arith, nat_tests) in
-    sym (sym c.loop-rest.invariant.0 ∙ line-end c.loop-rest.before c.loop-rest.rest.now c.loop-rest.draft empty)
+returns c = line_end c.loop-before.invariant c.in-None.ensures.steps
