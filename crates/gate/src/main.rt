@@ -3,20 +3,14 @@
 
 mod state;
 
-use anyhow::anyhow;
+use anyhow::{Context, bail, ensure};
 use protocol::Refusal;
 use settings::Settings;
 use state::{Answer, Gate, Missing};
+use std::collections::BTreeSet;
 use std::io::{BufRead, BufReader};
 use std::process::ExitCode;
 use std::{env, fs};
-
-// What was said on standard error so far: each thing that can't be done yet is named once.
-#[derive(Drop)]
-struct Told {
-    words: bool,
-    packets: bool,
-}
 
 fn main(rt: HostRuntime) -> anyhow::Result<ExitCode> {
     if let Err(why) = run(&rt) {
@@ -28,24 +22,25 @@ fn main(rt: HostRuntime) -> anyhow::Result<ExitCode> {
 
 // The path of the settings, the only argument.
 fn settings_path(rt: &HostRuntime) -> anyhow::Result<String> {
-    let mut args = env::args(rt)?;
-    let _program = args.next();
-    let Some(path) = args.next() else {
-        return Err(anyhow!("the file of settings is missing; use: gate SETTINGS"));
-    };
-    if args.next().is_some() {
-        return Err(anyhow!("only one argument is taken so far; use: gate SETTINGS"));
-    }
+    let mut args = env::args(rt)?.skip(1);
+    let path = args
+        .next()
+        .context("the file of settings is missing; use: gate SETTINGS")?;
+    ensure!(
+        args.next().is_none(),
+        "only one argument is taken so far; use: gate SETTINGS"
+    );
     Ok(path)
 }
 
-// The settings in a file; those that are refused are named with what is wrong.
+// The settings in a file; those that are refused are named with what is wrong. Each error is two
+// lines on standard error: the first, with the cause, is written here, since it may be long.
 fn read_settings(rt: &HostRuntime, path: &str) -> anyhow::Result<Settings> {
     let bytes = match fs::read(rt, path) {
         Ok(bytes) => bytes,
         Err(why) => {
             eprintln!(rt; "gate: {path}: {why}")?;
-            return Err(anyhow!("the settings can't be read"));
+            bail!("the settings can't be read");
         }
     };
     match settings::read(bytes.as_slice()) {
@@ -53,11 +48,8 @@ fn read_settings(rt: &HostRuntime, path: &str) -> anyhow::Result<Settings> {
         Err(fault) => {
             eprintln!(rt; "gate: {path}: {fault}")?;
             let refusal = fault.refusal();
-            let number = refusal.number();
-            let sentence = refusal.sentence();
-            Err(anyhow!(format!(in rt.alloc();
-                "the settings are refused by {number}: {sentence}"
-            )?))
+            let number = u8::from(refusal);
+            bail!("the settings are refused by {number}: {refusal}")
         }
     }
 }
@@ -68,9 +60,7 @@ fn run(rt: &HostRuntime) -> anyhow::Result<()> {
     let mut gate = Gate::new(rt.alloc());
     let faults = read_events(rt, &mut gate)?;
     print_counts(rt, &gate)?;
-    if faults > 0 {
-        return Err(anyhow!(format!(in rt.alloc(); "lines that can't be read: {faults}")?));
-    }
+    ensure!(faults == 0, "lines that can't be read: {faults}");
     Ok(())
 }
 
@@ -78,10 +68,7 @@ fn run(rt: &HostRuntime) -> anyhow::Result<()> {
 fn read_events(rt: &HostRuntime, gate: &mut Gate) -> anyhow::Result<u64> {
     let mut input = BufReader::new(rt.alloc(), rt.stdin())?;
     let mut line = Vec::new(rt.alloc());
-    let mut told = Told {
-        words: false,
-        packets: false,
-    };
+    let mut told = BTreeSet::new(rt.alloc());
     let mut faults = 0u64;
     for number in 1..u64::MAX {
         line.clear();
@@ -99,28 +86,21 @@ fn read_events(rt: &HostRuntime, gate: &mut Gate) -> anyhow::Result<u64> {
     Ok(faults)
 }
 
-// Says once of each kind of event that it can't be done yet.
-fn tell(rt: &HostRuntime, answer: Answer, told: &mut Told) -> anyhow::Result<()> {
-    match answer {
-        Answer::NotYet(Missing::Words) if !told.words => {
-            told.words = true;
-            eprintln!(rt; "gate: words of a known kind are not opened yet; they are passed over")?;
+// Says what can't be done yet, unless that was told before.
+fn tell(rt: &HostRuntime, answer: Answer, told: &mut BTreeSet<Missing>) -> anyhow::Result<()> {
+    if let Answer::NotYet(missing) = answer {
+        if told.insert(missing)? {
+            eprintln!(rt; "gate: {missing}")?;
         }
-        Answer::NotYet(Missing::Packets) if !told.packets => {
-            told.packets = true;
-            eprintln!(rt; "gate: packets from inside are not sent yet; they are passed over")?;
-        }
-        _ => {}
     }
     Ok(())
 }
 
 fn print_counts(rt: &HostRuntime, gate: &Gate) -> anyhow::Result<()> {
-    for number in 1..16u8 {
-        if let Some(refusal) = Refusal::from_number(number) {
-            let count = gate.refused(refusal);
-            println!(rt; "refused {number} {count}")?;
-        }
+    for refusal in Refusal::ALL {
+        let number = u8::from(refusal);
+        let count = gate.refused(refusal);
+        println!(rt; "refused {number} {count}")?;
     }
     Ok(())
 }

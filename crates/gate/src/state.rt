@@ -11,14 +11,24 @@ ghost use Rattle.gate.specs.Events.{answer_to, answer_to_word, tick_after, drawn
 use lines::{Event, LineFault, read_line};
 use protocol::{Counts, Refusal, kind_of};
 use std::alloc::{AllocError, Global};
+use std::fmt;
 
 /// What this form of the gate can't do yet.
-#[derive(Clone, Copy, Debug, PartialEq, Eq)]
+#[derive(Clone, Copy, Debug, PartialEq, Eq, PartialOrd, Ord)]
 pub enum Missing {
     /// Opening a word of a known kind.
     Words,
     /// Sending a packet from inside.
     Packets,
+}
+
+impl fmt::Display for Missing {
+    fn fmt<W: fmt::Write>(&self, f: &mut fmt::Formatter<W>) -> fmt::Result {
+        f.write_str(match self {
+            Missing::Words => "words of a known kind are not opened yet; they are passed over",
+            Missing::Packets => "packets from inside are not sent yet; they are passed over",
+        })
+    }
 }
 
 /// What became of an event.
@@ -80,10 +90,7 @@ impl Gate {
         ensures { TakesLine (line_says (trim_end line.now)) self.old self.new result }
     {
         let event = read_line(heap, line)?;
-        match self.take(event) {
-            Ok(answer) => Ok(answer),
-            Err(_) => Err(LineFault::NoMemory),
-        }
+        Ok(self.take(event)?)
     }
 
     // Takes a word from outside: one of unknown kind or length is refused and counted.

@@ -6,9 +6,10 @@
 //     owner LABEL HEX ADDRESS    LABEL gate N, or LABEL nobody; the address is 8 hex digits
 #![tactic(auto)]
 
-use anyhow::anyhow;
-use lines::decode;
+use anyhow::{Context, bail};
+use lines::decode_word;
 use std::io::{BufRead, BufReader};
+use std::net::Ipv4Addr;
 
 fn main(rt: HostRuntime) -> anyhow::Result<()> {
     run(&rt)
@@ -21,43 +22,30 @@ fn run(rt: &HostRuntime) -> anyhow::Result<()> {
         let Some(kind) = words.next() else {
             continue;
         };
-        let Some(label) = words.next() else {
-            return Err(anyhow!("a line has no label"));
-        };
-        let bytes = hex(rt, words.next())?;
+        let label = words.next().context("a line has no label")?;
+        let bytes = decode_word(rt.alloc(), words.next())?;
         match kind {
             "packet" => packet_line(rt, label, bytes.as_slice())?,
             "settings" => settings_line(rt, label, bytes.as_slice())?,
             "owner" => {
-                let address = hex(rt, words.next())?;
+                let address = decode_word(rt.alloc(), words.next())?;
                 owner_line(rt, label, bytes.as_slice(), address.as_slice())?;
             }
-            _ => return Err(anyhow!("a line is of no kind")),
+            _ => bail!("a line is of no kind"),
         }
     }
     Ok(())
 }
 
-// The bytes of a word of hex; none where there is no word.
-fn hex(rt: &HostRuntime, word: Option<&str>) -> anyhow::Result<Vec<u8>> {
-    let Some(word) = word else {
-        return Ok(Vec::new(rt.alloc()));
-    };
-    match decode(rt.alloc(), word.as_bytes(), 0) {
-        Ok(bytes) => Ok(bytes),
-        Err(_) => Err(anyhow!("a word is no hex")),
-    }
-}
-
 fn packet_line(rt: &HostRuntime, label: &str, bytes: &[u8]) -> anyhow::Result<()> {
     match packet::read(bytes) {
         Ok(found) => {
-            let [a, b, c, d] = found.source.to_be_bytes();
-            let [e, f, g, h] = found.destination.to_be_bytes();
-            println!(rt; "{label} from {a}.{b}.{c}.{d} to {e}.{f}.{g}.{h}")?;
+            let source = Ipv4Addr::from(found.source);
+            let destination = Ipv4Addr::from(found.destination);
+            println!(rt; "{label} from {source} to {destination}")?;
         }
         Err(refusal) => {
-            let number = refusal.number();
+            let number = u8::from(refusal);
             println!(rt; "{label} refused {number}")?;
         }
     }
@@ -68,7 +56,7 @@ fn settings_line(rt: &HostRuntime, label: &str, bytes: &[u8]) -> anyhow::Result<
     match settings::read(bytes) {
         Ok(_) => println!(rt; "{label} right")?,
         Err(fault) => {
-            let number = fault.refusal().number();
+            let number = u8::from(fault.refusal());
             println!(rt; "{label} refused {number}: {fault}")?;
         }
     }
@@ -76,13 +64,11 @@ fn settings_line(rt: &HostRuntime, label: &str, bytes: &[u8]) -> anyhow::Result<
 }
 
 fn owner_line(rt: &HostRuntime, label: &str, bytes: &[u8], address: &[u8]) -> anyhow::Result<()> {
-    let [a, b, c, d] = address else {
-        return Err(anyhow!("an address has 8 hex digits"));
-    };
+    let address: &[u8; 4] = address.as_array().context("an address has 8 hex digits")?;
     let Ok(found) = settings::read(bytes) else {
-        return Err(anyhow!("an owner is asked of settings that are refused"));
+        bail!("an owner is asked of settings that are refused");
     };
-    match found.plan().owner(u32::from_be_bytes([*a, *b, *c, *d])) {
+    match found.plan().owner(u32::from_be_bytes(*address)) {
         Some(gate) => println!(rt; "{label} gate {gate}")?,
         None => println!(rt; "{label} nobody")?,
     }

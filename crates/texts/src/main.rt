@@ -5,8 +5,8 @@
 //     plan LABEL HEX             LABEL right, N gates, or LABEL line N: what is wrong
 #![tactic(auto)]
 
-use anyhow::anyhow;
-use lines::{Event, decode, encode, read_line};
+use anyhow::{Context, bail};
+use lines::{Event, decode_word, encode, read_line};
 use std::io::{BufRead, BufReader, Write};
 
 fn main(rt: HostRuntime) -> anyhow::Result<()> {
@@ -20,28 +20,15 @@ fn run(rt: &HostRuntime) -> anyhow::Result<()> {
         let Some(kind) = words.next() else {
             continue;
         };
-        let Some(label) = words.next() else {
-            return Err(anyhow!("a line has no label"));
-        };
-        let bytes = hex(rt, words.next())?;
+        let label = words.next().context("a line has no label")?;
+        let bytes = decode_word(rt.alloc(), words.next())?;
         match kind {
             "line" => event_line(rt, label, bytes.as_slice())?,
             "plan" => plan_line(rt, label, bytes.as_slice())?,
-            _ => return Err(anyhow!("a line is of no kind")),
+            _ => bail!("a line is of no kind"),
         }
     }
     Ok(())
-}
-
-// The bytes of a word of hex; none where there is no word.
-fn hex(rt: &HostRuntime, word: Option<&str>) -> anyhow::Result<Vec<u8>> {
-    let Some(word) = word else {
-        return Ok(Vec::new(rt.alloc()));
-    };
-    match decode(rt.alloc(), word.as_bytes(), 0) {
-        Ok(bytes) => Ok(bytes),
-        Err(_) => Err(anyhow!("a word is no hex")),
-    }
 }
 
 // Prints an event that has bytes.
@@ -68,17 +55,10 @@ fn event_line(rt: &HostRuntime, label: &str, bytes: &[u8]) -> anyhow::Result<()>
 fn plan_line(rt: &HostRuntime, label: &str, text: &[u8]) -> anyhow::Result<()> {
     match draft::read(text) {
         Ok(read) => {
-            let gates = match read.plan() {
-                Some(plan) => plan.gates(),
-                None => 0,
-            };
+            let gates = read.plan().map_or(0, |plan| plan.gates());
             println!(rt; "{label} right, {gates} gates")?;
         }
-        Err(wrong) => {
-            let line = wrong.line;
-            let fault = wrong.fault;
-            println!(rt; "{label} line {line}: {fault}")?;
-        }
+        Err(wrong) => println!(rt; "{label} {wrong}")?,
     }
     Ok(())
 }
