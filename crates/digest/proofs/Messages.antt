@@ -44,27 +44,6 @@ put_rest block rest piece long e fits =
     ∙ ap (λ p. take (length (rest ++ piece)) p) (sym (append_assoc rest piece after))
     ∙ take_at (rest ++ piece) after (length (rest ++ piece)) refl
 
--- a piece that leaves the buffer less than full
-pub holds-part : (h h' : Hasher) (m piece : List ℕ) → Holds h m → length h.block ≡ 64 → h.total % 64 + length piece < 64
-    → h'.state ≡ h.state → h'.block ≡ put_mid (h.total % 64) (length piece) h.block piece → h'.total ≡ h.total + length piece
-    → Holds h' (m ++ piece)
-holds-part h h' m piece r long room hs hb ht =
-    let at : h.total % 64 ≡ length r.rest = filled h m r in
-    let n : length (r.rest ++ piece) ≡ length r.rest + length piece = length-append r.rest piece in
-    record {
-      blocks = r.blocks;
-      front = r.front;
-      rest = r.rest ++ piece;
-      joined = ap (λ x. x ++ piece) r.joined ∙ append_assoc r.front r.rest piece;
-      whole = r.whole;
-      few = omega arith;
-      state = hs ∙ r.state;
-      buffer =
-          ap (λ b. take (length (r.rest ++ piece)) b) (hb ∙ ap (λ k. put_mid k (length piece) h.block piece) at)
-          ∙ put_rest h.block r.rest piece long r.buffer (omega arith);
-      total = ht ∙ ap (λ k. k + length piece) r.total ∙ sym (length-append m piece);
-    }
-
 -- a piece that ends a block, which is the rest and the piece
 holds-block : (h h' : Hasher) (m piece block : List ℕ) → (r : Holds h m) → block ≡ r.rest ++ piece → length block ≡ 64
     → h'.state ≡ compressed h.state block → h'.total ≡ h.total + length piece → Holds h' (m ++ piece)
