@@ -35,14 +35,13 @@ filled h m r =
     let n : length m ≡ length r.front + length r.rest = ap length r.joined ∙ length-append r.front r.rest in
     omega arith
 
--- what the buffer begins with after a piece is put after the rest
-put_rest : (block rest piece : List ℕ) → length block ≡ 64 → take (length rest) block ≡ rest → length rest + length piece ≤ 64
-    → take (length (rest ++ piece)) (put_mid (length rest) (length piece) block piece) ≡ rest ++ piece
-put_rest block rest piece long e fits =
+-- what the buffer holds after a piece that fills it
+full_block : (block rest piece : List ℕ) → length block ≡ 64 → take (length rest) block ≡ rest → length rest + length piece ≡ 64
+    → put_mid (length rest) (length piece) block piece ≡ rest ++ piece
+full_block block rest piece long e fits =
     let after : List ℕ = drop (length piece) (drop (length rest) block) in
-    ap (λ p. take (length (rest ++ piece)) (p ++ (piece ++ after))) e
-    ∙ ap (λ p. take (length (rest ++ piece)) p) (sym (append_assoc rest piece after))
-    ∙ take_at (rest ++ piece) after (length (rest ++ piece)) refl
+    let none : after ≡ [] = nil_from_length after (omega (arith, length-drop (length piece) (drop (length rest) block), length-drop (length rest) block)) in
+    ap₂ (λ p q. p ++ (piece ++ q)) e none ∙ ap (λ q. rest ++ q) (append-nil piece)
 
 -- a piece that ends a block, which is the rest and the piece
 holds-block : (h h' : Hasher) (m piece block : List ℕ) → (r : Holds h m) → block ≡ r.rest ++ piece → length block ≡ 64
@@ -70,15 +69,14 @@ holds-whole h h' m piece r empty full hs ht =
 
 -- a piece that fills the buffer
 pub holds_full : (h h' : Hasher) (m piece block : List ℕ) → Holds h m → length h.block ≡ 64 → h.total % 64 + length piece ≡ 64
-    → block ≡ put_mid (h.total % 64) (length piece) h.block piece → length block ≡ 64
+    → block ≡ put_mid (h.total % 64) (length piece) h.block piece
     → h'.state ≡ compressed h.state block → h'.total ≡ h.total + length piece → Holds h' (m ++ piece)
-holds_full h h' m piece block r long room hb full hs ht =
+holds_full h h' m piece block r long room hb hs ht =
     let at : h.total % 64 ≡ length r.rest = filled h m r in
     let n : length (r.rest ++ piece) ≡ 64 = length-append r.rest piece ∙ omega arith in
-    let same : block ≡ put_mid (length r.rest) (length piece) h.block piece = hb ∙ ap (λ k. put_mid k (length piece) h.block piece) at in
     let all : block ≡ r.rest ++ piece =
-    sym (take_all 64 block (omega arith)) ∙ ap₂ (λ k b. take k b) (sym n) same ∙ put_rest h.block r.rest piece long r.buffer (omega arith) in
-    holds-block h h' m piece block r all full hs ht
+    hb ∙ ap (λ k. put_mid k (length piece) h.block piece) at ∙ full_block h.block r.rest piece long r.buffer (omega arith) in
+    holds-block h h' m piece block r all (ap length all ∙ n) hs ht
 
 -- three pieces, one after the other
 pub absorbs_all : (a b c d : Hasher) (first blocks rest part : List ℕ) → Absorbs a b first → Absorbs b c blocks → Absorbs c d rest → part ≡ first ++ (blocks ++ rest) → Absorbs a d part

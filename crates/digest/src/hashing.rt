@@ -1,10 +1,10 @@
 // SHA-256 of a message that comes in parts.
 ghost use Rattle.std.specs.Prelude.{◌≡◌, ℕ, ◌+◌, ◌-◌, ◌*◌, ◌%◌, ◌^◌, ◌<◌, ◌≤◌, true, false, List, [], ◌∷◌, ◌++◌, length, take, replicate, is_ok, if◌then◌else◌};
 ghost use Rattle.digest.specs.Hashers.{Absorbs, Holds, limited};
-ghost use Rattle.digest.specs.Sha256.{length_bytes, compressed, last_hash, sha256 as sha256-of};
+ghost use Rattle.digest.specs.Sha256.{length_bytes, last_hash, sha256 as sha256-of};
 
 use crate::state::{Fault, Hasher};
-use crate::values::{initial, serialize};
+use crate::values::{hashed, initial, serialize};
 use sha::compress;
 
 // RFC 6234, 4: a message has fewer than 2^64 bits, so fewer than 2^61 bytes.
@@ -37,15 +37,6 @@ fn with_length(block: [u8; 64], total: u64) -> [u8; 64]
     last
 }
 
-// The hash value after a last block.
-fn ended(h: &[u32; 8], block: [u8; 64], total: u64) -> [u32; 8]
-    ensures { result ≡ compressed h.now (take 56 block ++ length_bytes (8 * total)) }
-{
-    let mut end = *h;
-    compress(&mut end, &with_length(block, total));
-    end
-}
-
 impl Hasher {
     // A hasher that has taken whole blocks, by the hash value after them and how many bytes they have.
     pub(crate) fn resumed(state: [u32; 8], total: u64) -> Hasher
@@ -59,12 +50,19 @@ impl Hasher {
         }
     }
 
+    // How much of the buffer is full.
+    fn fill(&self) -> usize
+        ensures { result ≡ self.now.total % 64 }
+    {
+        (self.total % 64) as usize
+    }
+
     // Takes a piece that the buffer has room for.
     pub(crate) fn absorb(&mut self, piece: &[u8])
         requires { (self.old.total % 64 + length piece.now ≤ 64) × (self.old.total + length piece.now < 2 ^ 64) }
         ensures { Absorbs self.old self.new piece.now }
     {
-        let fill = (self.total % 64) as usize;
+        let fill = self.fill();
         let end = fill + piece.len();
         self.block[fill..end].copy_from_slice(piece);
         self.total += piece.len() as u64;
@@ -88,7 +86,7 @@ impl Hasher {
         requires { self.old.total + length part.now < 2 ^ 64 }
         ensures { Absorbs self.old self.new part.now }
     {
-        let room = (64 - self.total % 64) as usize % 64;
+        let room = (64 - self.fill()) % 64;
         let (first, others) = part.split_at(part.len().min(room));
         self.absorb(first);
         let (blocks, rest) = others.as_chunks();
@@ -102,14 +100,13 @@ impl Hasher {
     fn close(&self) -> [u32; 8]
         ensures { (m : List ℕ) → Holds self.now m → result ≡ last_hash m }
     {
-        let fill = (self.total % 64) as usize;
+        let fill = self.fill();
         let last = marked(&self.block, fill);
         if fill < 56 {
-            return ended(&self.state, last, self.total);
+            return hashed(self.state, &with_length(last, self.total));
         }
-        let mut h = self.state;
-        compress(&mut h, &last);
-        ended(&h, [0; 64], self.total)
+        let end = with_length([0; 64], self.total);
+        hashed(hashed(self.state, &last), &end)
     }
 
     /// A hasher that holds the empty message.

@@ -1,13 +1,25 @@
 // What hashing keeps between calls.
-use thiserror::Error;
+ghost use Rattle.std.specs.Prelude.{Some, codes};
+
+use std::error::Error;
+use std::fmt;
 
 /// What hashing refuses.
-#[derive(Clone, Copy, PartialEq, Eq, Debug, Error)]
+#[derive(Clone, Copy, PartialEq, Eq, Debug)]
 pub enum Fault {
     /// The message would have 2^64 bits or more.
-    #[error("the message would have 2^64 bits or more")]
     TooLong,
 }
+
+impl fmt::Display for Fault {
+    ghost output = { λ _. Some (codes "the message would have 2^64 bits or more") };
+
+    fn fmt<W: fmt::Write>(&self, f: &mut fmt::Formatter<W>) -> fmt::Result {
+        f.write_str("the message would have 2^64 bits or more")
+    }
+}
+
+impl Error for Fault {}
 
 /// A SHA-256 in the making: the hash value after all whole blocks, a buffer for the rest, and how
 /// many bytes were taken.
