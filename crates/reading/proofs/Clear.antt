@@ -1,5 +1,5 @@
 -- What is read of a word agrees with its clear bytes. Assumes nothing.
-use Rattle.std.proofs.Common.{◌≡◌, ℕ, Bool, true, false, cond, List, ◌++◌, get_or, take, is_some, Some, None, Ok, Err, Option, Result, sym, refl, ap, ◌∙◌, subst, arith}
+use Rattle.std.proofs.Common.{◌≡◌, ℕ, Bool, true, false, cond, eqb, List, ◌++◌, get_or, take, is_some, Some, None, Ok, Err, Option, Result, sym, refl, ap, ◌∙◌, subst, arith}
 use Rattle.protocol.specs.Kinds.{kind_byte}
 use Rattle.protocol.proofs.Words.{first_byte}
 use Rattle.protocol.specs.declared.kinds.Kind.{Kind}
@@ -14,7 +14,7 @@ use Rattle.wire.specs.Words.{Word, Hello, Reply, Packet, Empty, bytes_of}
 use Rattle.wire.specs.Reading.{Keys, Talks, maker_in, opener_in, nonce_in, sum_right, inside_under, first_in, second_in, header_in, hello_under, reply_under, packet_under, empty_under, with_pair, with_talk, read_by, read_word}
 use Rattle.wire.proofs.Headers.{From, Says, header_says}
 use Rattle.reading.specs.Sealed.{by_of, for_of, sort_of, Gates}
-use Rattle.reading.proofs.Facts.{clear_kind, clear-maker, clear-opener}
+use Rattle.reading.proofs.Facts.{Clear, clear_bytes}
 
 -- the kind, the maker and the opener of a word stand in its clear bytes
 record Stands (w : List ℕ) (x : Word) : Type 0 where
@@ -74,34 +74,28 @@ stands own keys talks w x is = by (header_in own (λ a. is_some (keys a)) w) ref
     by (Ok g) known r = headed g (header_says own (λ a. is_some (keys a)) w g known) r
 
 -- kinds with one byte are one kind
+kind_with : ℕ → Kind
+kind_with n = cond (eqb n 1) kind.Hello (cond (eqb n 2) kind.Reply (cond (eqb n 3) kind.Packet kind.Empty))
+
+kind_back : (k : Kind) → kind_with (kind_byte k) ≡ k
+unfolding kind_with
+kind_back kind.Hello = refl
+kind_back kind.Reply = refl
+kind_back kind.Packet = refl
+kind_back kind.Empty = refl
+
 kind_same : (k j : Kind) → kind_byte k ≡ kind_byte j → k ≡ j
-kind_same kind.Hello kind.Hello e = refl
-kind_same kind.Hello kind.Reply e = absurd (omega arith)
-kind_same kind.Hello kind.Packet e = absurd (omega arith)
-kind_same kind.Hello kind.Empty e = absurd (omega arith)
-kind_same kind.Reply kind.Hello e = absurd (omega arith)
-kind_same kind.Reply kind.Reply e = refl
-kind_same kind.Reply kind.Packet e = absurd (omega arith)
-kind_same kind.Reply kind.Empty e = absurd (omega arith)
-kind_same kind.Packet kind.Hello e = absurd (omega arith)
-kind_same kind.Packet kind.Reply e = absurd (omega arith)
-kind_same kind.Packet kind.Packet e = refl
-kind_same kind.Packet kind.Empty e = absurd (omega arith)
-kind_same kind.Empty kind.Hello e = absurd (omega arith)
-kind_same kind.Empty kind.Reply e = absurd (omega arith)
-kind_same kind.Empty kind.Packet e = absurd (omega arith)
-kind_same kind.Empty kind.Empty e = refl
+kind_same k j e = sym (kind_back k) ∙ ap kind_with e ∙ kind_back j
 
 -- and so it was sealed
+from_clear : (w : List ℕ) (y : Word) → Clear w (kind_byte (sort_of y)) (by_of y) (for_of y) → Stands w y
+from_clear w y c = record { byte = sym c.kind; maker = sym c.maker; opener = sym c.opener }
+
 sealed-stands : (pair drawn : List ℕ) (y : Word) → Stands (bytes_of pair drawn y) y
-sealed-stands pair drawn (Hello a e t n) =
-    record { byte = sym (clear_kind pair _ drawn (take 12 drawn) (bytes8 t ++ bytes8 n) 1 a e); maker = sym (clear-maker pair _ drawn (take 12 drawn) (bytes8 t ++ bytes8 n) 1 a e); opener = sym (clear-opener pair _ drawn (take 12 drawn) (bytes8 t ++ bytes8 n) 1 a e) }
-sealed-stands pair drawn (Reply a e t n) =
-    record { byte = sym (clear_kind pair _ drawn (take 12 drawn) (bytes8 t ++ bytes8 n) 2 a e); maker = sym (clear-maker pair _ drawn (take 12 drawn) (bytes8 t ++ bytes8 n) 2 a e); opener = sym (clear-opener pair _ drawn (take 12 drawn) (bytes8 t ++ bytes8 n) 2 a e) }
-sealed-stands pair drawn (Packet a e m h n x) =
-    record { byte = sym (clear_kind (talk_key pair m h) _ (bytes8 h ++ bytes8 n) (number_nonce n) x 3 a e); maker = sym (clear-maker (talk_key pair m h) _ (bytes8 h ++ bytes8 n) (number_nonce n) x 3 a e); opener = sym (clear-opener (talk_key pair m h) _ (bytes8 h ++ bytes8 n) (number_nonce n) x 3 a e) }
-sealed-stands pair drawn (Empty a e m h n) =
-    record { byte = sym (clear_kind (talk_key pair m h) _ (bytes8 h ++ bytes8 n) (number_nonce n) _ 4 a e); maker = sym (clear-maker (talk_key pair m h) _ (bytes8 h ++ bytes8 n) (number_nonce n) _ 4 a e); opener = sym (clear-opener (talk_key pair m h) _ (bytes8 h ++ bytes8 n) (number_nonce n) _ 4 a e) }
+sealed-stands pair drawn (Hello a e t n) = from_clear _ _ (clear_bytes pair _ drawn (take 12 drawn) (bytes8 t ++ bytes8 n) 1 a e)
+sealed-stands pair drawn (Reply a e t n) = from_clear _ _ (clear_bytes pair _ drawn (take 12 drawn) (bytes8 t ++ bytes8 n) 2 a e)
+sealed-stands pair drawn (Packet a e m h n x) = from_clear _ _ (clear_bytes (talk_key pair m h) _ (bytes8 h ++ bytes8 n) (number_nonce n) x 3 a e)
+sealed-stands pair drawn (Empty a e m h n) = from_clear _ _ (clear_bytes (talk_key pair m h) _ (bytes8 h ++ bytes8 n) (number_nonce n) _ 4 a e)
 
 pub gates : Gates
 gates own keys talks pair drawn x y is =

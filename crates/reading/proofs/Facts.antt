@@ -7,7 +7,7 @@ use Rattle.digest.specs.Hmac.{hmac}
 use Rattle.wire.specs.Keys.{sum_of}
 use Rattle.wire.specs.Numbers.{bytes8}
 use Rattle.wire.specs.Words.{sealed_by}
-use Rattle.wire.specs.Reading.{body_in, sum_in, inside_in, same, sum_right}
+use Rattle.wire.specs.Reading.{maker_in, opener_in, body_in, sum_in, inside_in, same, sum_right}
 use Rattle.wire.proofs.Right.{same_refl}
 use Rattle.wire.proofs.Streams.{length-encrypt}
 
@@ -60,19 +60,17 @@ facts key turning head nonce inside lh =
           ap₂ (λ a b. a && b) fits right;
     }
 
--- the clear bytes of a sealed word
-pub clear_kind : (key turning field nonce inside : List ℕ) (k a e : ℕ) → get_or (sealed_by key turning (k ∷ a ∷ e ∷ field) nonce inside) 0 0 ≡ k
-unfolding sealed_by
-clear_kind key turning field nonce inside k a e = refl
+-- the clear bytes of a word sealed: its kind, its maker and its opener
+pub record Clear (w : List ℕ) (k a e : ℕ) : Type 0 where
+  pub kind : get_or w 0 0 ≡ k
+  pub maker : maker_in w ≡ a
+  pub opener : opener_in w ≡ e
 
-pub clear-maker : (key turning field nonce inside : List ℕ) (k a e : ℕ) → get_or (sealed_by key turning (k ∷ a ∷ e ∷ field) nonce inside) 1 0 ≡ a
+pub clear_bytes : (key turning field nonce inside : List ℕ) (k a e : ℕ) → Clear (sealed_by key turning (k ∷ a ∷ e ∷ field) nonce inside) k a e
 unfolding sealed_by
-clear-maker key turning field nonce inside k a e = refl
+clear_bytes key turning field nonce inside k a e = record { kind = refl; maker = refl; opener = refl }
 
-pub clear-opener : (key turning field nonce inside : List ℕ) (k a e : ℕ) → get_or (sealed_by key turning (k ∷ a ∷ e ∷ field) nonce inside) 2 0 ≡ e
-unfolding sealed_by
-clear-opener key turning field nonce inside k a e = refl
-
+-- the tag and the number of a word of a talk
 pub clear-tag : (key turning nonce inside : List ℕ) (k a e h n : ℕ) → take 8 (drop 3 (sealed_by key turning (k ∷ a ∷ e ∷ (bytes8 h ++ bytes8 n)) nonce inside)) ≡ bytes8 h
 unfolding sealed_by bytes8
 clear-tag key turning nonce inside k a e h n = refl
@@ -81,12 +79,7 @@ pub clear-number : (key turning nonce inside : List ℕ) (k a e h n : ℕ) → t
 unfolding sealed_by bytes8
 clear-number key turning nonce inside k a e h n = refl
 
--- the drawn bytes
-pub clear_field : (key turning field nonce inside : List ℕ) (k a e : ℕ) → length field ≡ 16 → take 16 (drop 3 (sealed_by key turning (k ∷ a ∷ e ∷ field) nonce inside)) ≡ field
-unfolding sealed_by
-clear_field key turning field nonce inside k a e long =
-    ap (take 16) (append_assoc field (encrypt turning 0 nonce inside) _) ∙ take_at field _ 16 long
-
+-- the nonce, which the drawn bytes begin with
 pub clear_nonce : (key turning field nonce inside : List ℕ) (k a e : ℕ) → length field ≡ 16 → take 12 (drop 3 (sealed_by key turning (k ∷ a ∷ e ∷ field) nonce inside)) ≡ take 12 field
 unfolding sealed_by
 clear_nonce key turning field nonce inside k a e long =

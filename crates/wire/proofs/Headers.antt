@@ -1,6 +1,7 @@
 -- What the clear bytes of a word say, and what they come from. Assumes nothing.
-use Rattle.std.proofs.Common.{◌≡◌, ℕ, ◌≤◌, Bool, true, false, cond, ◌&&◌, eqb, List, length, Ok, Err, Result, sym, refl, ap, ◌∙◌, subst, arith}
+use Rattle.std.proofs.Common.{◌≡◌, ℕ, ◌+◌, ◌≤◌, Bool, true, false, cond, ◌&&◌, eqb, List, length, get_or, take, drop, Ok, Err, Result, sym, refl, ap, ◌∙◌, subst, arith}
 use Rattle.std.proofs.lemmas.Bool.Decides.{nat_tests}
+use Rattle.std.proofs.lemmas.List.{get_or-take, drop-take, take-take}
 use Rattle.protocol.specs.Kinds.{kind_of, IsWord}
 use Rattle.protocol.specs.declared.kinds.Kind.{Kind}
 use Rattle.protocol.specs.declared.kinds.Kind.TheVariants as kind
@@ -9,6 +10,7 @@ use Rattle.protocol.specs.declared.refusals.Refusal.TheVariants.{WrongGate, Zero
 use Rattle.protocol.proofs.Words.{word-is}
 use Rattle.wire.specs.declared.state.Header.{Header}
 use Rattle.wire.specs.declared.state.Header.TheVariants as header
+use Rattle.wire.specs.Numbers.{number8}
 use Rattle.wire.specs.Reading.{maker_in, opener_in, tag_in, number_in, fields_in, header_as, header_in}
 
 -- for this gate, by one that is there
@@ -21,12 +23,34 @@ pub header_wrong : (own : ℕ) (there : ℕ → Bool) (w : List ℕ) (k : Kind) 
     → Err WrongGate ≡ header_in own there w
 header_wrong own there w k is wrong = sym (ap (header_as own there w) is ∙ ap (λ b. cond b (fields_in w k) (Err WrongGate)) wrong)
 
--- both, for the functions that read a header
-pub ruleset heads = (header_right, header_wrong)
+-- what the first 19 bytes of a word say is what the word says
+pub maker_first : (w c : List ℕ) → c ≡ take 19 w → get_or c 1 0 ≡ maker_in w
+maker_first w c is = ap (λ x. get_or x 1 0) is ∙ get_or-take 19 w 1 0 (omega arith)
 
--- a header that is known by its parts was read
-pub headed : (r : Result Header Refusal) (h h' : Header) → Ok h ≡ r → h ≡ h' → Ok h' ≡ r
-headed r h h' read is = sym (ap Ok is) ∙ read
+pub opener_first : (w c : List ℕ) → c ≡ take 19 w → get_or c 2 0 ≡ opener_in w
+opener_first w c is = ap (λ x. get_or x 2 0) is ∙ get_or-take 19 w 2 0 (omega arith)
+
+part_first : (w c : List ℕ) (n m : ℕ) → c ≡ take 19 w → 19 ≡ n + m → 8 ≤ m → take 8 (drop n c) ≡ take 8 (drop n w)
+part_first w c n m is all long =
+    ap (λ x. take 8 (drop n x)) is ∙ ap (λ k. take 8 (drop n (take k w))) all ∙ ap (take 8) (drop-take n m w) ∙ take-take 8 m (drop n w) long
+
+pub fields_first : (w c : List ℕ) (k : Kind) → c ≡ take 19 w → fields_in c k ≡ fields_in w k
+fields_first w c k is = by k
+  where
+    maker : maker_in c ≡ maker_in w
+    maker = maker_first w c is
+
+    tag : tag_in c ≡ tag_in w
+    tag = ap number8 (part_first w c 3 16 is (omega arith) (omega arith))
+
+    number : number_in c ≡ number_in w
+    number = ap number8 (part_first w c 11 8 is (omega arith) (omega arith))
+
+    by : (k : Kind) → fields_in c k ≡ fields_in w k
+    by kind.Hello = ap (λ m. Ok (header.Hello m)) maker
+    by kind.Reply = ap (λ m. Ok (header.Reply m)) maker
+    by kind.Packet = λ i. cond (eqb (tag i) 0) (Err ZeroTag) (Ok (header.Packet (maker i) (tag i) (number i)))
+    by kind.Empty = λ i. cond (eqb (tag i) 0) (Err ZeroTag) (Ok (header.Empty (maker i) (tag i) (number i)))
 
 -- a word of a kind, by gate a, which is there, for this gate
 pub record From (own : ℕ) (there : ℕ → Bool) (w : List ℕ) (k : Kind) (a : ℕ) : Type 0 where
@@ -89,6 +113,3 @@ packet-length w is = grind (arith, nat_tests)
 
 pub empty-length : (w : List ℕ) → IsWord kind.Empty w → length w ≡ 35
 empty-length w is = grind (arith, nat_tests)
-
-pub empty_least : (w : List ℕ) → IsWord kind.Empty w → 35 ≤ length w
-empty_least w is = grind (arith, nat_tests)

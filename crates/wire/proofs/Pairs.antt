@@ -1,7 +1,7 @@
 -- Reading by the keys of one pair and at most one talk. Assumes nothing.
 use Rattle.std.proofs.Common.{◌≡◌, ℕ, Bool, true, false, cond, eqb, List, is_some, Some, None, Ok, Err, Option, Result, sym, refl, ap, ◌∙◌, subst, arith}
 use Rattle.std.proofs.lemmas.Bool.Decides.{nat_tests}
-use Rattle.std.specs.Option.{option_map}
+use Rattle.std.specs.Option.{option_map, ok_or}
 use Rattle.protocol.specs.declared.refusals.Refusal.{Refusal}
 use Rattle.protocol.specs.declared.refusals.Refusal.TheVariants.{NoTalk}
 use Rattle.wire.specs.declared.state.Header.{Header}
@@ -64,6 +64,15 @@ read-empty own peer a h n key talk w is =
     read_by_lem own peer key (one_talk talk) w (Ok (header.Empty a h n)) is
     ∙ under own peer a key w (λ x pair. with_talk (option_map (λ t. t.theirs) (named_by talk h)) (λ m. empty_under own x h n w (talk_key pair m h) m)) says.from.maker says.from.is
 
+-- what is answered of a talk that may be there
+pub named_err : (o : Option TalkKeys) (e : Refusal) → Err e ≡ ok_or o NoTalk → (None ≡ o) × (e ≡ NoTalk)
+named_err None e is = (refl, cc)
+named_err (Some t) e is = let z : ◌≡◌ {A = ℕ} 0 1 = cc in absurd (omega arith)
+
+pub named_ok : (o : Option TalkKeys) (t : TalkKeys) → ◌≡◌ {A = Result TalkKeys Refusal} (Ok t) (ok_or o NoTalk) → Some t ≡ o
+named_ok None t is = let z : ◌≡◌ {A = ℕ} 0 1 = cc in absurd (omega arith)
+named_ok (Some u) t is = cc
+
 -- no talk has the tag
 pub talk-none : (talk : Option TalkKeys) (h : ℕ) (read : ℕ → Result Word Refusal) → None ≡ named_by talk h
     → Err NoTalk ≡ with_talk (option_map (λ t. t.theirs) (named_by talk h)) read
@@ -72,8 +81,8 @@ talk-none talk h read none = ap (λ o. with_talk (option_map (λ (t : TalkKeys).
 -- the talk that has the tag is the one that was given
 pub record Named (p : PairKeys) (key : List ℕ) (t : TalkKeys) (h : ℕ) : Type 0 where
   pub holds : TalkHolds t key
-  pub own : t.own ≡ p.own
-  pub peer : t.peer ≡ p.peer
+  pub own : t.side.own ≡ p.side.own
+  pub peer : t.side.peer ≡ p.side.peer
   pub mine : t.mine ≡ h
 
 pub talk-named : (p : PairKeys) (key : List ℕ) (talk : Option TalkKeys) (h : ℕ) (t : TalkKeys) → Some t ≡ named_by talk h → TalkOf p key talk → Named p key t h
@@ -89,11 +98,11 @@ talk-named p key (Some u) h t is of = by (eqb u.mine h) refl is
 -- what is read in the talk that has the tag
 pub talk_reads : (p : PairKeys) (key : List ℕ) (talk : Option TalkKeys) (h : ℕ) (t : TalkKeys) (read : (own a h : ℕ) → List ℕ → ℕ → Result Word Refusal)
     → Some t ≡ named_by talk h → Named p key t h
-    → read t.own t.peer t.mine (talk_key key t.theirs t.mine) t.theirs
-    ≡ with_talk (option_map (λ t. t.theirs) (named_by talk h)) (λ m. read p.own p.peer h (talk_key key m h) m)
+    → read t.side.own t.side.peer t.mine (talk_key key t.theirs t.mine) t.theirs
+    ≡ with_talk (option_map (λ t. t.theirs) (named_by talk h)) (λ m. read p.side.own p.side.peer h (talk_key key m h) m)
 talk_reads p key talk h t read is n =
     let o = n.own in
     let e = n.peer in
     let m = n.mine in
     (λ i. read (o i) (e i) (m i) (talk_key key t.theirs (m i)) t.theirs)
-    ∙ ap (λ o. with_talk (option_map (λ (t : TalkKeys). t.theirs) o) (λ m. read p.own p.peer h (talk_key key m h) m)) is
+    ∙ ap (λ o. with_talk (option_map (λ (t : TalkKeys). t.theirs) o) (λ m. read p.side.own p.side.peer h (talk_key key m h) m)) is

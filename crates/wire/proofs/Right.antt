@@ -1,6 +1,5 @@
 -- Sums: which are computed, and which are right. Assumes nothing.
-use Rattle.std.proofs.Common.{◌≡◌, ℕ, ◌+◌, ◌-◌, ◌^◌, ◌≤◌, Bool, true, false, cond, ◌&&◌, ltb, List, [], ◌∷◌, length, take, drop, Some, None, Ok, Err, Result, sym, refl, ap, ◌∙◌, subst, arith}
-use Rattle.std.proofs.lemmas.List.{take_all, length-drop}
+use Rattle.std.proofs.Common.{◌≡◌, ℕ, ◌+◌, ◌^◌, Bool, true, false, cond, ◌&&◌, ltb, List, [], ◌∷◌, length, Ok, Err, Result, sym, refl, ap, ◌∙◌, subst, arith}
 use Rattle.std.proofs.lemmas.Bool.Decides.{nat_tests}
 use Rattle.digest.specs.Hashers.{limited}
 use Rattle.digest.specs.declared.state.Fault.{Fault}
@@ -48,16 +47,13 @@ pub sum_no : (key w : List ℕ) → sum_right key w ≡ true → sum_in w ≡ su
 unfolding sum_right
 sum_no key w right = same_true (sum_in w) (sum_of key (body_in w)) (grind (arith, nat_tests))
 
--- the last 16 bytes of a word
-pub sum_part : (w : List ℕ) (n : ℕ) → 16 ≤ n → 16 ≤ length w → take n (drop (length w - 16) w) ≡ sum_in w
-sum_part w n all long = take_all n (drop (length w - 16) w) (simp length-drop (omega arith))
-
 -- the sum that is computed
-pub sum_computed : (key body right : List ℕ) → true ≡ ltb (65 + length body) (2 ^ 61)
-    → Some right ≡ cond (ltb (65 + length body) (2 ^ 61)) (Some (sum_of key body)) None → right ≡ sum_of key body
-sum_computed key body right short value =
-    let computed : Some right ≡ Some (sum_of key body) = value ∙ ap (λ b. cond b (Some (sum_of key body)) None) (sym short) in
-    cc computed
+pub sum_computed : (key body right : List ℕ) (r : Result (List ℕ) Fault) → r ≡ Ok right → r ≡ limited (65 + length body) (sum_of key body) → right ≡ sum_of key body
+sum_computed key body right r is value = by (ltb (65 + length body) (2 ^ 61)) (sym is ∙ value)
+  where
+    by : (b : Bool) → ◌≡◌ {A = Result (List ℕ) Fault} (Ok right) (cond b (Ok (sum_of key body)) (Err TooLong)) → right ≡ sum_of key body
+    by true e = cc
+    by false e = let z : ◌≡◌ {A = ℕ} 0 1 = cc in absurd (omega arith)
 
 -- for the function that looks whether a sum is right
-pub ruleset checking = (sum_none, sum_yes, sum_no, sum_part)
+pub ruleset checking = (sum_none, sum_yes, sum_no)

@@ -53,9 +53,7 @@ sealed_over_lem key turning head nonce inside out enc sum n k j m lh li room hk 
 pub nothing-behind : (s out : List ℕ) (n : ℕ) → length out ≤ n → s ++ drop n out ≡ s
 nothing-behind s out n long = ap (λ x. s ++ x) (drop_all n out long) ∙ append-nil s
 
--- nothing inside is turned into nothing, under any key, and fills memory that is as long as the word
-pub sealed_empty : (key turning other head head' nonce nonce' out result : List ℕ) → result ≡ sealed_by key turning head nonce [] ++ drop 35 out → length out ≤ 35 → head ≡ head' → nonce ≡ nonce'
-    → result ≡ sealed_by key other head' nonce' []
+-- nothing inside is turned into nothing, under any key
+pub sealed_empty : (key turning other head nonce : List ℕ) → sealed_by key turning head nonce [] ≡ sealed_by key other head nonce []
 unfolding sealed_by encrypt
-sealed_empty key turning other head head' nonce nonce' out result is long same same' =
-    is ∙ nothing-behind (sealed_by key turning head nonce []) out 35 long ∙ ap (λ h. (h ++ []) ++ sum_of key (h ++ [])) same
+sealed_empty key turning other head nonce = refl

@@ -4,9 +4,11 @@ use Rattle.digest.specs.Hashers.{Prepared}
 use Rattle.digest.specs.Hmac.{hmac}
 use Rattle.protocol.specs.Kinds.{kind_byte}
 use Rattle.protocol.specs.Limits.{sum_length}
+use Rattle.protocol.specs.declared.kinds.Kind.{Kind}
 use Rattle.protocol.specs.declared.kinds.Kind.TheVariants.{Hello, Reply, Packet}
 use Rattle.wire.specs.declared.state.PairKeys.{PairKeys}
 use Rattle.wire.specs.declared.state.TalkKeys.{TalkKeys}
+use Rattle.wire.specs.declared.state.Ways.{Ways}
 use Rattle.wire.specs.Layout.{sum_mark}
 use Rattle.wire.specs.Numbers.{bytes8}
 
@@ -26,16 +28,17 @@ sum_of key bytes = take sum_length (hmac key (sum_mark ∷ bytes))
 abbrev pub number_nonce : ℕ → List ℕ
 number_nonce n = replicate 4 0 ++ bytes8 n
 
--- What is kept of a pair's key, by gate `own` with gate `peer`, is what deriving anew gives.
+-- the cipher's keys for words of a kind, out to the other gate and back from it
+abbrev pub ways_of : List ℕ → Kind → (own peer : ℕ) → Ways
+ways_of key k own peer = record { out = turn_key key (kind_byte k) own peer; back = turn_key key (kind_byte k) peer own }
+
+-- What is kept of a pair's key is what deriving anew gives.
 pub record PairHolds (p : PairKeys) (key : List ℕ) : Type 0 where
-  pub hash : Prepared p.hash key
-  pub hello_out : p.hello_out ≡ turn_key key (kind_byte Hello) p.own p.peer
-  pub hello_in : p.hello_in ≡ turn_key key (kind_byte Hello) p.peer p.own
-  pub reply_out : p.reply_out ≡ turn_key key (kind_byte Reply) p.own p.peer
-  pub reply_in : p.reply_in ≡ turn_key key (kind_byte Reply) p.peer p.own
+  pub hash : Prepared p.side.hash key
+  pub hello : p.hello ≡ ways_of key Hello p.side.own p.side.peer
+  pub reply : p.reply ≡ ways_of key Reply p.side.own p.side.peer
 
 -- What is kept of a talk's keys, under the pair's key, is what deriving anew gives. Empty words have nothing inside to turn.
 pub record TalkHolds (t : TalkKeys) (pair : List ℕ) : Type 0 where
-  pub hash : Prepared t.hash (talk_key pair t.mine t.theirs)
-  pub packet_out : t.packet_out ≡ turn_key (talk_key pair t.mine t.theirs) (kind_byte Packet) t.own t.peer
-  pub packet_in : t.packet_in ≡ turn_key (talk_key pair t.mine t.theirs) (kind_byte Packet) t.peer t.own
+  pub hash : Prepared t.side.hash (talk_key pair t.mine t.theirs)
+  pub packet : t.packet ≡ ways_of (talk_key pair t.mine t.theirs) Packet t.side.own t.side.peer

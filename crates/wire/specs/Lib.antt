@@ -4,3 +4,4 @@ pub mod Keys
 pub mod Words
 pub mod Sealing
 pub mod Reading
+pub mod Unsealed

@@ -174,7 +174,7 @@ one_talk talk h a = option_map (λ t. t.theirs) (named_by talk h)
 -- the talk's keys, if there are any, are kept of a talk of this pair's
 abbrev pub TalkOf : PairKeys → List ℕ → Option TalkKeys → Type 0
 TalkOf p key None = Unit {0}
-TalkOf p key (Some t) = TalkHolds t key × (t.own ≡ p.own) × (t.peer ≡ p.peer)
+TalkOf p key (Some t) = TalkHolds t key × (t.side.own ≡ p.side.own) × (t.side.peer ≡ p.side.peer)
 
 -- WHAT OPENING ANSWERS AND LEAVES
 

@@ -1,20 +1,18 @@
 // The clear bytes of a word: what can be told of it before any key. Assumes nothing.
-ghost use Rattle.std.specs.Prelude.{◌≡◌, ◌≤◌, true, length, nat_eq};
+ghost use Rattle.std.specs.Prelude.{◌≡◌, ℕ, ◌<◌, Bool};
 ghost use Rattle.wire.specs.Reading.{fields_in, header_in, another};
 
-use crate::layout::{MAKER_AT, NUMBER_AT, OPENER_AT, TAG_AT};
-use crate::numbers::number_at;
+use crate::layout::{INSIDE_AT, MAKER_AT, OPENER_AT};
+use crate::numbers::numbers_in;
 use crate::state::Header;
 use protocol::{Kind, Refusal, kind_of};
 
-// The clear bytes of a word of this kind. Refuses a tag of 0.
-fn fields(word: &[u8], kind: Kind) -> Result<Header, Refusal>
-    requires { 35 ≤ length word.now }
-    ensures { result ≡ fields_in word.now kind }
+// What the clear bytes of a word of this kind say. Refuses a tag of 0.
+fn fields(clear: &[u8; INSIDE_AT], kind: Kind) -> Result<Header, Refusal>
+    ensures { result ≡ fields_in clear.now kind }
 {
-    let maker = word[MAKER_AT];
-    let tag = number_at(word, TAG_AT);
-    let number = number_at(word, NUMBER_AT);
+    let maker = clear[MAKER_AT];
+    let (tag, number) = numbers_in(clear.last_chunk().unwrap());
     match kind {
         Kind::Hello => Ok(Header::Hello { maker }),
         Kind::Reply => Ok(Header::Reply { maker }),
@@ -24,37 +22,28 @@ fn fields(word: &[u8], kind: Kind) -> Result<Header, Refusal>
     }
 }
 
+// The clear bytes of a word that came to gate `own`, by a maker that passes the test.
+pub(crate) fn header_by<F: Fn(u8) -> bool>(
+    word: &[u8],
+    own: u8,
+    there: F,
+) -> Result<Header, Refusal>
+    requires { F.IsAlwaysCallable there }
+    ensures { (test : ℕ → Bool) → ((a : ℕ) (r : Bool) → a < 256 → F.post there a r → r ≡ test a) → result ≡ header_in own test word.now }
+{
+    let kind = kind_of(word)?;
+    let clear = word.first_chunk().unwrap();
+    if clear[OPENER_AT] != own || !there(clear[MAKER_AT]) {
+        return Err(Refusal::WrongGate);
+    }
+    fields(clear, kind)
+}
+
 /// The clear bytes of a word that came to gate `own` of so many gates. Refuses, in this order, a
 /// word of unknown kind or length, one that isn't for this gate or isn't by another one that is
 /// there, and a tag of 0 in a word of a talk. It changes nothing.
-#[tactic(auto, using(crate::proofs::Headers::heads))]
 pub fn read_header(word: &[u8], own: u8, gates: u8) -> Result<Header, Refusal>
     ensures { result ≡ header_in own (another own gates) word.now }
 {
-    let kind = kind_of(word)?;
-    if word[OPENER_AT] != own {
-        return Err(Refusal::WrongGate);
-    }
-    if word[MAKER_AT] >= gates {
-        return Err(Refusal::WrongGate);
-    }
-    if word[MAKER_AT] == own {
-        return Err(Refusal::WrongGate);
-    }
-    fields(word, kind)
-}
-
-// The clear bytes of a word that one gate made for another. Refuses as `read_header` does.
-#[tactic(auto, using(crate::proofs::Headers::heads))]
-pub(crate) fn header_between(word: &[u8], peer: u8, own: u8) -> Result<Header, Refusal>
-    ensures { result ≡ header_in own (λ a. nat_eq a peer) word.now }
-{
-    let kind = kind_of(word)?;
-    if word[OPENER_AT] != own {
-        return Err(Refusal::WrongGate);
-    }
-    if word[MAKER_AT] != peer {
-        return Err(Refusal::WrongGate);
-    }
-    fields(word, kind)
+    header_by(word, own, |maker| maker < gates && maker != own)
 }

@@ -2,26 +2,20 @@
 ghost use Rattle.std.specs.Prelude.{◌≡◌, ℕ, List};
 ghost use Rattle.wire.specs.Keys.{PairHolds, TalkHolds};
 
-use crate::state::{PairKeys, TalkKeys};
-use crate::sums::{cipher_key, talk_key};
-use digest::Key;
+use crate::state::{PairKeys, Side, TalkKeys};
 use protocol::Kind;
 
 impl PairKeys {
     /// What gate `own` keeps of the key that it shares with gate `peer`.
     pub fn new(key: &[u8; 32], own: u8, peer: u8) -> Self
         ensures holds { PairHolds result key.now }
-        ensures gates { (result.own ≡ own) × (result.peer ≡ peer) }
+        ensures gates { (result.side.own ≡ own) × (result.side.peer ≡ peer) }
     {
-        let hash = Key::new(key);
+        let side = Side::new(key, own, peer);
         PairKeys {
-            own,
-            peer,
-            hash,
-            hello_out: cipher_key(&hash, Kind::Hello, own, peer),
-            hello_in: cipher_key(&hash, Kind::Hello, peer, own),
-            reply_out: cipher_key(&hash, Kind::Reply, own, peer),
-            reply_in: cipher_key(&hash, Kind::Reply, peer, own),
+            side,
+            hello: side.ways(Kind::Hello),
+            reply: side.ways(Kind::Reply),
         }
     }
 
@@ -29,18 +23,16 @@ impl PairKeys {
     /// `mine` and the other one `theirs`.
     pub fn talk(&self, mine: u64, theirs: u64) -> TalkKeys
         ensures holds { (key : List ℕ) → PairHolds self.now key → TalkHolds result key }
-        ensures gates { (result.own ≡ self.now.own) × (result.peer ≡ self.now.peer) }
+        ensures gates { (result.side.own ≡ self.now.side.own) × (result.side.peer ≡ self.now.side.peer) }
         ensures tags { (result.mine ≡ mine) × (result.theirs ≡ theirs) }
     {
-        let hash = Key::new(&talk_key(&self.hash, mine, theirs));
+        let key = self.side.talk_key(mine, theirs);
+        let side = Side::new(&key, self.side.own, self.side.peer);
         TalkKeys {
-            own: self.own,
-            peer: self.peer,
+            side,
             mine,
             theirs,
-            hash,
-            packet_out: cipher_key(&hash, Kind::Packet, self.own, self.peer),
-            packet_in: cipher_key(&hash, Kind::Packet, self.peer, self.own),
+            packet: side.ways(Kind::Packet),
         }
     }
 }

@@ -1,29 +1,38 @@
 // 64-bit tags and numbers in bytes, and nonces. Assumes nothing.
-ghost use Rattle.std.specs.Prelude.{◌≡◌, ◌+◌, ◌≤◌, ◌++◌, length, take, drop};
+ghost use Rattle.std.specs.Prelude.{◌≡◌, ◌++◌, take, drop};
 ghost use Rattle.wire.specs.Keys.{number_nonce};
 ghost use Rattle.wire.specs.Numbers.{bytes8, number8};
 
 use crate::layout::NONCE;
+use protocol::limits::FIELD;
 
-// The number of the 8 bytes at a place.
-pub(crate) fn number_at(bytes: &[u8], at: usize) -> u64
-    requires { at + 8 ≤ length bytes.now }
-    ensures { result ≡ number8 (take 8 (drop at bytes.now)) }
+// The two numbers that 16 bytes are, one after the other.
+#[tactic(auto, unfolding(crate::specs::Numbers::number8))]
+pub(crate) fn numbers_in(both: &[u8; 16]) -> (u64, u64)
+    ensures first { result.0 ≡ number8 (take 8 both.now) }
+    ensures second { result.1 ≡ number8 (take 8 (drop 8 both.now)) }
 {
-    let mut eight = [0; 8];
-    eight.copy_from_slice(&bytes[at..at + 8]);
-    u64::from_be_bytes(eight)
+    let first = both.first_chunk().unwrap();
+    let second = both.last_chunk().unwrap();
+    (u64::from_be_bytes(*first), u64::from_be_bytes(*second))
 }
 
-// Two numbers, one after the other.
+// Two numbers, one after the other. They are copied: no method of arrays joins two.
 #[tactic(auto, unfolding(crate::specs::Numbers::bytes8))]
 pub(crate) fn two_numbers(first: u64, second: u64) -> [u8; 16]
     ensures { result ≡ bytes8 first ++ bytes8 second }
 {
     let mut both = [0; 16];
-    both[0..8].copy_from_slice(&first.to_be_bytes());
-    both[8..16].copy_from_slice(&second.to_be_bytes());
+    both[..8].copy_from_slice(&first.to_be_bytes());
+    both[8..].copy_from_slice(&second.to_be_bytes());
     both
+}
+
+// The nonce of a hello or a reply: the first of its drawn bytes.
+pub(crate) fn nonce_of(drawn: &[u8; FIELD]) -> [u8; NONCE]
+    ensures { result ≡ take 12 drawn.now }
+{
+    *drawn.first_chunk().unwrap()
 }
 
 // The nonce of a number in a talk.
@@ -32,6 +41,6 @@ pub(crate) fn number_nonce(number: u64) -> [u8; NONCE]
     ensures { result ≡ number_nonce number }
 {
     let mut nonce = [0; NONCE];
-    nonce[4..NONCE].copy_from_slice(&number.to_be_bytes());
+    nonce[4..].copy_from_slice(&number.to_be_bytes());
     nonce
 }

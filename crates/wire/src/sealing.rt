@@ -1,103 +1,106 @@
 // Sealing each kind of word, into lent memory. Assumes nothing.
-ghost use Rattle.std.specs.Prelude.{◌≡◌, ℕ, ◌+◌, ◌≤◌, cond, List, [], ◌++◌, length, take, drop};
+ghost use Rattle.std.specs.Prelude.{◌≡◌, ℕ, ◌+◌, ◌≤◌, List, [], ◌++◌, length, take};
 ghost use Rattle.digest.specs.Hashers.{Prepared};
-ghost use Rattle.protocol.specs.Limits.{seal_length};
-ghost use Rattle.wire.specs.Keys.{PairHolds, TalkHolds};
+ghost use Rattle.wire.specs.Keys.{PairHolds, TalkHolds, talk_key, number_nonce};
+ghost use Rattle.wire.specs.Numbers.{bytes8};
 ghost use Rattle.wire.specs.Sealing.{seal_answer, sealed_over};
 ghost use Rattle.wire.specs.Words.{Hello, Reply, Packet, Empty, clear, sealed_by, bytes_of};
 
-use crate::layout::{INSIDE_AT, KIND_AT, MAKER_AT, NONCE, OPENER_AT};
-use crate::numbers::{number_nonce, two_numbers};
-use crate::state::{PairKeys, TalkKeys, Unsealed};
-use crate::sums::{sum_of, turn_short};
-use digest::Key;
+use crate::layout::{INSIDE_AT, KIND_AT, MAKER_AT, OPENER_AT};
+use crate::numbers::{nonce_of, number_nonce, two_numbers};
+use crate::state::{PairKeys, Side, TalkKeys, Unsealed};
+use crate::sums::turn_short;
+use cipher::ChaCha20;
 use protocol::Kind;
-use protocol::limits::{CLEAR, FIELD, HANDSHAKE, MAX_PACKET, SEALED, SUM};
+use protocol::limits::{CLEAR, FIELD, HANDSHAKE, HANDSHAKE_INSIDE, MAX_PACKET, SEALED, SUM};
 
-// All that stands in clear in a word.
-fn head_of(kind: Kind, maker: u8, opener: u8, field: &[u8; FIELD]) -> [u8; INSIDE_AT]
-    ensures { result ≡ clear kind maker opener field.now }
-{
-    let mut head = [0; INSIDE_AT];
-    head[KIND_AT] = kind.byte();
-    head[MAKER_AT] = maker;
-    head[OPENER_AT] = opener;
-    head[CLEAR..INSIDE_AT].copy_from_slice(field);
-    head
-}
+impl Side {
+    // All that stands in clear in a word for the other gate.
+    fn head_of(&self, kind: Kind, field: &[u8; FIELD]) -> [u8; INSIDE_AT]
+        ensures { result ≡ clear kind self.now.own self.now.peer field.now }
+    {
+        let mut head = [0; INSIDE_AT];
+        head[KIND_AT] = u8::from(kind);
+        head[MAKER_AT] = self.own;
+        head[OPENER_AT] = self.peer;
+        head[CLEAR..].copy_from_slice(field);
+        head
+    }
 
-// The nonce of a hello or a reply.
-fn drawn_nonce(drawn: &[u8; FIELD]) -> [u8; NONCE]
-    ensures { result ≡ take 12 drawn.now }
-{
-    let mut nonce = [0; NONCE];
-    nonce.copy_from_slice(&drawn[0..NONCE]);
-    nonce
-}
+    // Writes the clear bytes and the inside, turns the inside, and writes the sum.
+    fn seal(&self, head: &[u8; INSIDE_AT], cipher: &ChaCha20, inside: &[u8], out: &mut [u8])
+        requires short { length inside.now ≤ 1280 }
+        requires room { length out.old ≡ 35 + length inside.now }
+        ensures { (key : List ℕ) → Prepared self.now.hash key → out.new ≡ sealed_by key cipher.now.key head.now cipher.now.nonce inside.now }
+    {
+        let end = INSIDE_AT + inside.len();
+        out[..INSIDE_AT].copy_from_slice(head);
+        out[INSIDE_AT..end].copy_from_slice(inside);
+        turn_short(cipher, &mut out[INSIDE_AT..end]);
+        let sum = self.sum_of(&out[..end]).unwrap();
+        out[end..end + SUM].copy_from_slice(&sum);
+    }
 
-// Writes the clear bytes and the inside, turns the inside, and writes the sum.
-fn seal_into(
-    hash: &Key,
-    turning: &[u8; 32],
-    head: &[u8; INSIDE_AT],
-    nonce: &[u8; NONCE],
-    inside: &[u8],
-    out: &mut [u8],
-)
-    requires { (length inside.now ≤ 1280) × (35 + length inside.now ≤ length out.old) }
-    ensures { (key : List ℕ) → Prepared hash.now key → out.new ≡ sealed_by key turning.now head.now nonce.now inside.now ++ drop (35 + length inside.now) out.old }
-{
-    let end = INSIDE_AT + inside.len();
-    out[0..INSIDE_AT].copy_from_slice(head);
-    out[INSIDE_AT..end].copy_from_slice(inside);
-    turn_short(turning, nonce, &mut out[INSIDE_AT..end]);
-    let Some(sum) = sum_of(hash, &out[0..end]) else {
-        return;
-    };
-    out[end..end + SUM].copy_from_slice(&sum);
+    // Writes a hello or a reply with this inside and 16 drawn bytes.
+    fn seal_handshake(
+        &self,
+        kind: Kind,
+        turning: &[u8; 32],
+        drawn: &[u8; FIELD],
+        inside: &[u8; HANDSHAKE_INSIDE],
+        out: &mut [u8; HANDSHAKE],
+    )
+        ensures { (key : List ℕ) → Prepared self.now.hash key → out.new ≡ sealed_by key turning.now (clear kind self.now.own self.now.peer drawn.now) (take 12 drawn.now) inside.now }
+    {
+        let cipher = ChaCha20 {
+            key: *turning,
+            nonce: nonce_of(drawn),
+        };
+        self.seal(&self.head_of(kind, drawn), &cipher, inside, out);
+    }
 }
 
 impl PairKeys {
     /// Writes the hello with this tag and tick for the other gate, with 16 drawn bytes.
     pub fn seal_hello(&self, drawn: &[u8; FIELD], tag: u64, tick: u64, out: &mut [u8; HANDSHAKE])
-        ensures { (key : List ℕ) → PairHolds self.now key → out.new ≡ bytes_of key drawn.now (Hello self.now.own self.now.peer tag tick) }
+        ensures { (key : List ℕ) → PairHolds self.now key → out.new ≡ bytes_of key drawn.now (Hello self.now.side.own self.now.side.peer tag tick) }
     {
-        let head = head_of(Kind::Hello, self.own, self.peer, drawn);
         let inside = two_numbers(tag, tick);
-        seal_into(
-            &self.hash,
-            &self.hello_out,
-            &head,
-            &drawn_nonce(drawn),
-            &inside,
-            out,
-        );
+        self.side
+            .seal_handshake(Kind::Hello, &self.hello.out, drawn, &inside, out);
     }
 
     /// Writes the reply with this tag to the hello with the tag `asked`, with 16 drawn bytes.
     pub fn seal_reply(&self, drawn: &[u8; FIELD], tag: u64, asked: u64, out: &mut [u8; HANDSHAKE])
-        ensures { (key : List ℕ) → PairHolds self.now key → out.new ≡ bytes_of key drawn.now (Reply self.now.own self.now.peer tag asked) }
+        ensures { (key : List ℕ) → PairHolds self.now key → out.new ≡ bytes_of key drawn.now (Reply self.now.side.own self.now.side.peer tag asked) }
     {
-        let head = head_of(Kind::Reply, self.own, self.peer, drawn);
         let inside = two_numbers(tag, asked);
-        seal_into(
-            &self.hash,
-            &self.reply_out,
-            &head,
-            &drawn_nonce(drawn),
-            &inside,
-            out,
-        );
+        self.side
+            .seal_handshake(Kind::Reply, &self.reply.out, drawn, &inside, out);
     }
 }
 
 impl TalkKeys {
+    // Writes a word of the talk under this number.
+    fn seal_numbered(&self, kind: Kind, number: u64, inside: &[u8], out: &mut [u8])
+        requires short { length inside.now ≤ 1280 }
+        requires room { length out.old ≡ 35 + length inside.now }
+        ensures { (key : List ℕ) → Prepared self.now.side.hash key → out.new ≡ sealed_by key self.now.packet.out (clear kind self.now.side.own self.now.side.peer (bytes8 self.now.theirs ++ bytes8 number)) (number_nonce number) inside.now }
+    {
+        let head = self.side.head_of(kind, &two_numbers(self.theirs, number));
+        let cipher = ChaCha20 {
+            key: self.packet.out,
+            nonce: number_nonce(number),
+        };
+        self.side.seal(&head, &cipher, inside, out);
+    }
+
     /// Writes a packet under this number of the talk to the front of the lent memory, and answers
     /// how long the word is; what is behind it stays. Refuses, and changes nothing, where the packet
     /// is longer than any that may pass, or the memory has no room.
     pub fn seal_packet(&self, number: u64, packet: &[u8], out: &mut [u8]) -> Result<usize, Unsealed>
         ensures answer { result ≡ seal_answer (length packet.now) (length out.old) }
-        ensures word { (pair : List ℕ) → TalkHolds self.now pair → out.new ≡ sealed_over result (bytes_of pair [] (Packet self.now.own self.now.peer self.now.mine self.now.theirs number packet.now)) out.old }
+        ensures word { (pair : List ℕ) → TalkHolds self.now pair → out.new ≡ sealed_over result (bytes_of pair [] (Packet self.now.side.own self.now.side.peer self.now.mine self.now.theirs number packet.now)) out.old }
     {
         if packet.len() > MAX_PACKET {
             return Err(Unsealed::TooLong);
@@ -106,32 +109,15 @@ impl TalkKeys {
         if out.len() < end {
             return Err(Unsealed::NoRoom);
         }
-        let field = two_numbers(self.theirs, number);
-        let head = head_of(Kind::Packet, self.own, self.peer, &field);
-        seal_into(
-            &self.hash,
-            &self.packet_out,
-            &head,
-            &number_nonce(number),
-            packet,
-            out,
-        );
+        self.seal_numbered(Kind::Packet, number, packet, &mut out[..end]);
         Ok(end)
     }
 
     /// Writes the keepalive under this number of the talk.
+    #[tactic(auto, using(crate::proofs::Written::sealed_empty))]
     pub fn seal_empty(&self, number: u64, out: &mut [u8; SEALED])
-        ensures { (pair : List ℕ) → TalkHolds self.now pair → out.new ≡ bytes_of pair [] (Empty self.now.own self.now.peer self.now.mine self.now.theirs number) }
+        ensures { (pair : List ℕ) → TalkHolds self.now pair → out.new ≡ bytes_of pair [] (Empty self.now.side.own self.now.side.peer self.now.mine self.now.theirs number) }
     {
-        let field = two_numbers(self.theirs, number);
-        let head = head_of(Kind::Empty, self.own, self.peer, &field);
-        seal_into(
-            &self.hash,
-            &self.packet_out,
-            &head,
-            &number_nonce(number),
-            &[],
-            out,
-        );
+        self.seal_numbered(Kind::Empty, number, &[], out);
     }
 }

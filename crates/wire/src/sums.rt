@@ -1,86 +1,87 @@
 // Sums and cipher keys under a prepared key. Assumes nothing.
-ghost use Rattle.std.specs.Prelude.{◌≡◌, ℕ, ◌+◌, ◌^◌, ◌≤◌, true, ltb, List, length, take, is_some, if◌then◌else◌, Some, None, nat_lt};
+ghost use Rattle.std.specs.Prelude.{◌≡◌, ℕ, ◌+◌, ◌^◌, ◌≤◌, cond, List, length, is_ok, Ok, Err, nat_lt};
 ghost use Rattle.cipher.specs.ChaCha20.{encrypt};
-ghost use Rattle.digest.specs.Hashers.{Prepared};
+ghost use Rattle.digest.specs.Hashers.{Prepared, limited};
 ghost use Rattle.digest.specs.Hmac.{hmac};
-ghost use Rattle.protocol.specs.Kinds.{kind_byte};
-ghost use Rattle.wire.specs.Keys.{turn_key, talk_key, sum_of};
+ghost use Rattle.wire.specs.Keys.{talk_key, ways_of, sum_of};
 ghost use Rattle.wire.specs.Reading.{sum_right};
 
-use crate::layout::{NONCE, SUM_MARK};
+use crate::layout::SUM_MARK;
 use crate::numbers::two_numbers;
-use cipher::turn;
-use digest::{Key, same_sum};
-use protocol::Kind;
+use crate::state::{Side, Ways};
+use cipher::{ChaCha20, Lanes};
+use digest::{Fault, Key, same_sum};
 use protocol::limits::SUM;
+use protocol::{Kind, Refusal};
 
-// The HMAC of a short message.
-fn code_of(hash: &Key, message: &[u8]) -> [u8; 32]
-    requires { length message.now ≤ 64 }
-    ensures { (key : List ℕ) → Prepared hash.now key → result ≡ hmac key message.now }
-{
-    let mut mac = hash.begin();
-    let _ = mac.update(message);
-    mac.finish()
-}
+impl Side {
+    // The side of gate `own` of the key that it shares with gate `peer`.
+    pub(crate) fn new(key: &[u8; 32], own: u8, peer: u8) -> Self
+        ensures hash { Prepared result.hash key.now }
+        ensures gates { (result.own ≡ own) × (result.peer ≡ peer) }
+    {
+        let hash = Key::new(key);
+        Side { own, peer, hash }
+    }
 
-// The cipher's key for words of a kind from one gate for another.
-#[tactic(auto, unfolding(crate::specs::Keys::turn_key))]
-pub(crate) fn cipher_key(hash: &Key, kind: Kind, maker: u8, opener: u8) -> [u8; 32]
-    ensures { (key : List ℕ) → Prepared hash.now key → result ≡ turn_key key (kind_byte kind) maker opener }
-{
-    code_of(hash, &[kind.byte(), maker, opener])
-}
+    // The HMAC of a short message.
+    fn code_of(&self, message: &[u8]) -> [u8; 32]
+        requires { length message.now ≤ 64 }
+        ensures { (key : List ℕ) → Prepared self.now.hash key → result ≡ hmac key message.now }
+    {
+        let mut mac = self.hash.begin();
+        mac.update(message).unwrap();
+        mac.finish()
+    }
 
-// The key of the talk with these tags, under the pair's key.
-#[tactic(auto, unfolding(crate::specs::Keys::talk_key))]
-pub(crate) fn talk_key(hash: &Key, one: u64, other: u64) -> [u8; 32]
-    ensures { (key : List ℕ) → Prepared hash.now key → result ≡ talk_key key one other }
-{
-    code_of(hash, &two_numbers(one.min(other), one.max(other)))
-}
+    // The cipher's keys for words of a kind, out to the other gate and back from it.
+    #[tactic(auto, unfolding(crate::specs::Keys::turn_key))]
+    pub(crate) fn ways(&self, kind: Kind) -> Ways
+        ensures { (key : List ℕ) → Prepared self.now.hash key → result ≡ ways_of key kind self.now.own self.now.peer }
+    {
+        Ways {
+            out: self.code_of(&[u8::from(kind), self.own, self.peer]),
+            back: self.code_of(&[u8::from(kind), self.peer, self.own]),
+        }
+    }
 
-// The first bytes of a code, which are the sum.
-fn first_bytes(code: &[u8; 32]) -> [u8; SUM]
-    ensures { result ≡ take 16 code.now }
-{
-    let mut sum = [0; SUM];
-    sum.copy_from_slice(&code[0..SUM]);
-    sum
-}
+    // The key of the talk with these tags, under the pair's key.
+    #[tactic(auto, unfolding(crate::specs::Keys::talk_key))]
+    pub(crate) fn talk_key(&self, one: u64, other: u64) -> [u8; 32]
+        ensures { (key : List ℕ) → Prepared self.now.hash key → result ≡ talk_key key one other }
+    {
+        self.code_of(&two_numbers(one.min(other), one.max(other)))
+    }
 
-// The sum of all that stands before it, or none where it is too long for SHA-256.
-pub(crate) fn sum_of(hash: &Key, body: &[u8]) -> Option<[u8; SUM]>
-    ensures there { is_some result ≡ nat_lt (65 + length body.now) (2 ^ 61) }
-    ensures value { (key : List ℕ) → Prepared hash.now key → result ≡ (if ltb (65 + length body.now) (2 ^ 61) then Some (sum_of key body.now) else None) }
-{
-    let mut mac = hash.begin();
-    let _ = mac.update(&[SUM_MARK]);
-    let Ok(()) = mac.update(body) else {
-        return None;
-    };
-    Some(first_bytes(&mac.finish()))
-}
+    // The sum of all that stands before it; refused where that is too long for SHA-256.
+    pub(crate) fn sum_of(&self, body: &[u8]) -> Result<[u8; SUM], Fault>
+        ensures there { is_ok result ≡ nat_lt (65 + length body.now) (2 ^ 61) }
+        ensures value { (key : List ℕ) → Prepared self.now.hash key → result ≡ limited (65 + length body.now) (sum_of key body.now) }
+    {
+        let mut mac = self.hash.begin();
+        mac.update(&[SUM_MARK]).unwrap();
+        mac.update(body)?;
+        Ok(*mac.finish().first_chunk().unwrap())
+    }
 
-// Whether the sum at a word's end is that of all before it.
-#[tactic(auto, using(crate::proofs::Right::checking))]
-pub(crate) fn sum_right(hash: &Key, word: &[u8]) -> bool
-    requires { 16 ≤ length word.now }
-    ensures { (key : List ℕ) → Prepared hash.now key → result ≡ sum_right key word.now }
-{
-    let end = word.len() - SUM;
-    let Some(right) = sum_of(hash, &word[0..end]) else {
-        return false;
-    };
-    let mut found = [0; SUM];
-    found.copy_from_slice(&word[end..end + SUM]);
-    same_sum(&found, &right)
+    // Refuses a word whose sum isn't that of all before it.
+    #[tactic(auto, using(crate::proofs::Right::checking))]
+    pub(crate) fn check(&self, word: &[u8]) -> Result<(), Refusal>
+        requires { 16 ≤ length word.now }
+        ensures { (key : List ℕ) → Prepared self.now.hash key → result ≡ cond (sum_right key word.now) (Ok tt) (Err Refusal.WrongSum) }
+    {
+        let (body, found) = word.split_last_chunk::<SUM>().unwrap();
+        match self.sum_of(body) {
+            Ok(right) if same_sum(found, &right) => Ok(()),
+            _ => Err(Refusal::WrongSum),
+        }
+    }
 }
 
 // Turns a text that is no longer than a packet, from counter 0 on.
-pub(crate) fn turn_short(key: &[u8; 32], nonce: &[u8; NONCE], text: &mut [u8])
+pub(crate) fn turn_short(cipher: &ChaCha20, text: &mut [u8])
     requires { length text.old ≤ 1280 }
-    ensures { text.new ≡ encrypt key.now 0 nonce.now text.old }
+    ensures { text.new ≡ encrypt cipher.now.key 0 cipher.now.nonce text.old }
 {
-    let _ = turn(key, 0, nonce, text);
+    cipher.turn::<_, Lanes>(0, text).unwrap();
 }

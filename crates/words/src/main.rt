@@ -4,13 +4,13 @@
 // words of the table `whole` are also sealed again, flipped and cut.
 #![tactic(auto)]
 
-mod show;
 mod trials;
 
-use anyhow::anyhow;
-use lines::decode;
+use anyhow::{Context, anyhow};
+use lines::decode_word;
 use std::io::{BufRead, BufReader};
-use trials::{cuts, flips, opens, seals_again};
+use std::str::FromStr;
+use trials::Trial;
 use wire::PairKeys;
 
 fn main(rt: HostRuntime) -> anyhow::Result<()> {
@@ -24,23 +24,28 @@ fn run(rt: &HostRuntime) -> anyhow::Result<()> {
         let Some(table) = parts.next() else {
             continue;
         };
-        let Some(label) = parts.next() else {
-            return Err(anyhow!("a line has no label"));
-        };
+        let label = parts.next().context("a line has no label")?;
         let key = key_of(bytes_of(rt, parts.next())?.as_slice())?;
-        let own = gate_of(parts.next())?;
-        let peer = gate_of(parts.next())?;
-        let mine = tag_of(parts.next())?;
-        let theirs = tag_of(parts.next())?;
+        let own = number_of(parts.next(), "a gate")?;
+        let peer = number_of(parts.next(), "a gate")?;
+        let mine = number_of(parts.next(), "a tag")?;
+        let theirs = number_of(parts.next(), "a tag")?;
         let mut word = bytes_of(rt, parts.next())?;
         let here = PairKeys::new(&key, own, peer);
         let there = PairKeys::new(&key, peer, own);
-        let talk = here.talk(mine, theirs);
-        opens(rt, label, &here, talk, word.as_slice())?;
+        let trial = Trial {
+            rt,
+            label,
+            talk: here.talk(mine, theirs),
+            here,
+            back: there.talk(theirs, mine),
+            there,
+        };
+        trial.opens(word.as_slice())?;
         if table == "whole" {
-            seals_again(rt, label, &here, &there, (mine, theirs), word.as_slice())?;
-            flips(rt, label, &here, talk, word.as_mut_slice())?;
-            cuts(rt, label, &here, talk, word.as_mut_slice())?;
+            trial.seals_again(word.as_slice())?;
+            trial.flips(word.as_mut_slice())?;
+            trial.cuts(word.as_mut_slice())?;
         }
     }
     Ok(())
@@ -48,40 +53,18 @@ fn run(rt: &HostRuntime) -> anyhow::Result<()> {
 
 // The bytes of a part of hex; none where there is no part.
 fn bytes_of(rt: &HostRuntime, part: Option<&str>) -> anyhow::Result<Vec<u8>> {
-    let Some(part) = part else {
-        return Ok(Vec::new(rt.alloc()));
-    };
-    match decode(rt.alloc(), part.as_bytes(), 0) {
-        Ok(bytes) => Ok(bytes),
-        Err(_) => Err(anyhow!("a part is no hex")),
-    }
+    decode_word(rt.alloc(), part).map_err(|_| anyhow!("a part is no hex"))
 }
 
 fn key_of(bytes: &[u8]) -> anyhow::Result<[u8; 32]> {
-    if bytes.len() != 32 {
-        return Err(anyhow!("a key hasn't 32 bytes"));
-    }
-    let mut key = [0; 32];
-    key.copy_from_slice(bytes);
-    Ok(key)
+    bytes.try_into().ok().context("a key hasn't 32 bytes")
 }
 
-fn gate_of(part: Option<&str>) -> anyhow::Result<u8> {
-    let Some(part) = part else {
-        return Err(anyhow!("a gate is missing"));
-    };
-    match part.parse::<u8>() {
-        Ok(gate) => Ok(gate),
-        Err(_) => Err(anyhow!("a gate is no number")),
-    }
-}
-
-fn tag_of(part: Option<&str>) -> anyhow::Result<u64> {
-    let Some(part) = part else {
-        return Err(anyhow!("a tag is missing"));
-    };
-    match part.parse::<u64>() {
-        Ok(tag) => Ok(tag),
-        Err(_) => Err(anyhow!("a tag is no number")),
-    }
+// The number that a part is, which `what` names where there is none.
+fn number_of<T: FromStr>(part: Option<&str>, what: &str) -> anyhow::Result<T>
+where
+    T::Err: Drop,
+{
+    let part = part.ok_or_else(|| anyhow!("{what} is missing"))?;
+    part.parse().map_err(|_| anyhow!("{what} is no number"))
 }

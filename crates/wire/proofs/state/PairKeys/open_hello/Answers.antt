@@ -1,16 +1,10 @@
-use Rattle.std.proofs.Common.{sym, ◌∙◌}
-use Rattle.wire.proofs.Answered.{hello_wrong, hello-zero, hello-told}
+use Rattle.std.proofs.Common.{Err, ap, ◌∙◌}
+use Rattle.std.proofs.lemmas.Result.{err_from_is_err_and}
+use Rattle.wire.proofs.Answered.{cond_err, hello_wrong}
 use Rattle.wire.proofs.state.PairKeys.open_hello.Goals as goal
 
-pub returns-then-not-sum_right : goal.returns-then-not-sum_right
-returns-then-not-sum_right c key h = hello_wrong _ _ _ key (sym (c.sum_right.ensures key h.hash) ∙ c.if-not-sum_right.true)
-
-pub returns-then-tag-eq0 : goal.returns-then-tag-eq0
-returns-then-tag-eq0 c key h =
-    hello-zero _ _ _ key _ _ _ (sym (c.sum_right.ensures key h.hash) ∙ c.if-not-sum_right.false) h.hello_in c.inside_of-inside.ensures
-    c.number_at-tag.ensures c.if-tag-eq0.true
-
-pub returns : goal.returns
-returns c key h =
-    hello-told _ _ _ key _ _ _ _ (sym (c.sum_right.ensures key h.hash) ∙ c.if-not-sum_right.false) h.hello_in c.inside_of-inside.ensures
-    c.number_at-tag.ensures c.number_at-tick.ensures c.if-tag-eq0.false
+pub returns-in_err-tag : goal.returns-in_err-tag
+returns-in_err-tag c key h =
+    let exit = err_from_is_err_and c.from_residual.result c.from_residual.ensures.1 in
+    let wrong = cond_err _ _ _ _ (c.in_err-tag.ensures key h.hash) in
+    exit.1 ∙ ap Err (exit.2 ∙ wrong.1) ∙ hello_wrong _ _ _ key wrong.0

@@ -1,23 +1,10 @@
-use Rattle.std.proofs.Common.{◌≡◌, true, ◌||◌, eqb, sym, ◌∙◌, arith}
-use Rattle.std.proofs.lemmas.Bool.Decides.{nat_tests}
-use Rattle.wire.specs.Reading.{first_in, second_in}
-use Rattle.wire.proofs.Answered.{reply_wrong, reply-zero, reply-told}
+use Rattle.std.proofs.Common.{Err, ap, ◌∙◌}
+use Rattle.std.proofs.lemmas.Result.{err_from_is_err_and}
+use Rattle.wire.proofs.Answered.{cond_err, reply_wrong}
 use Rattle.wire.proofs.state.PairKeys.open_reply.Goals as goal
 
-pub returns-then-not-sum_right : goal.returns-then-not-sum_right
-returns-then-not-sum_right c key h = reply_wrong _ _ _ key (sym (c.sum_right.ensures key h.hash) ∙ c.if-not-sum_right.true)
-
-pub returns-then-tag-eq0 : goal.returns-then-tag-eq0
-returns-then-tag-eq0 c key h =
-    let none : (eqb (first_in c.inside_of-inside.result) 0 || eqb (second_in c.inside_of-inside.result) 0) ≡ true = grind (arith, nat_tests) in
-    reply-zero _ _ _ key _ _ (sym (c.sum_right.ensures key h.hash) ∙ c.if-not-sum_right.false) h.reply_in c.inside_of-inside.ensures none
-
-pub returns-then-asked-eq0 : goal.returns-then-asked-eq0
-returns-then-asked-eq0 c key h =
-    let none : (eqb (first_in c.inside_of-inside.result) 0 || eqb (second_in c.inside_of-inside.result) 0) ≡ true = grind (arith, nat_tests) in
-    reply-zero _ _ _ key _ _ (sym (c.sum_right.ensures key h.hash) ∙ c.if-not-sum_right.false) h.reply_in c.inside_of-inside.ensures none
-
-pub returns : goal.returns
-returns c key h =
-    reply-told _ _ _ key _ _ _ _ (sym (c.sum_right.ensures key h.hash) ∙ c.if-not-sum_right.false) h.reply_in c.inside_of-inside.ensures
-    c.number_at-tag.ensures c.number_at-asked.ensures c.if-tag-eq0.false c.if-asked-eq0.false
+pub returns-in_err-tag : goal.returns-in_err-tag
+returns-in_err-tag c key h =
+    let exit = err_from_is_err_and c.from_residual.result c.from_residual.ensures.1 in
+    let wrong = cond_err _ _ _ _ (c.in_err-tag.ensures key h.hash) in
+    exit.1 ∙ ap Err (exit.2 ∙ wrong.1) ∙ reply_wrong _ _ _ key wrong.0
