@@ -105,6 +105,7 @@ fn story() -> [Line; 22] {
     ]
 }
 
+// A function and no Display: letters are another crate's, and a wrapper round one for these words is no plainer.
 /// A letter of the net in words.
 fn name(letter: Letter) -> &'static str {
     match letter.word {
