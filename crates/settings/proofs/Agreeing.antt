@@ -1,5 +1,5 @@
 -- Settings that are made from one plan are allowed, and agree. Assumes nothing.
-use Rattle.std.proofs.Common.{◌≡◌, ℕ, zero, suc, ◌+◌, ◌-◌, ◌*◌, ◌<◌, ◌≤◌, Bool, true, false, cond, eqb, leb, ◌≢◌, ◌⊎◌, List, length, get_or, take, drop, replicate, Ok, sym, refl, ap, ◌∙◌, inl, inr, arith}
+use Rattle.std.proofs.Common.{◌≡◌, ℕ, zero, suc, ◌+◌, ◌-◌, ◌*◌, ◌<◌, ◌≤◌, Bool, true, false, cond, eqb, leb, ltb, ◌≢◌, ◌⊎◌, List, length, get_or, take, drop, replicate, Ok, sym, refl, ap, ◌∙◌, inl, inr, arith}
 use Rattle.std.proofs.lemmas.List.FromFn.{length-map-range_with_len, get_or-map-range_with_len}
 use Rattle.std.proofs.lemmas.List.{length-set, length-take-le, length-drop, length-append, length-replicate, get_or-set_same, get_or-set_other, get_or-replicate, get_or_append_left, get_or-append_right, get_or-take, ext_get_or}
 use Rattle.std.proofs.lemmas.Bool.Decides.{nat_tests, eqb_tells, leb_tells}
@@ -58,6 +58,19 @@ keys_past : (drawn : List ℕ) (own n j : ℕ) → n ≤ j → j < 32 → get_or
 keys_past drawn own zero j past few = get_or-replicate 32 j blank_key blank_key few
 keys_past drawn own (suc n) j past few =
     get_or-set_other (keys_for drawn own n) n j (key_for drawn own n) blank_key (omega arith) ∙ keys_past drawn own n j (omega arith) few
+
+-- keys that were made place by place
+pub keys_made : (drawn : List ℕ) (own n : ℕ) (ys : List Key) → n ≤ 32 → length ys ≡ 32 → ((k : ℕ) → k < 32 → get_or ys k blank_key ≡ cond (ltb k n) (key_for drawn own k) blank_key) → ys ≡ keys_for drawn own n
+keys_made drawn own n ys few long each =
+    ext_get_or blank_key ys (keys_for drawn own n) (long ∙ sym (keys-long drawn own n)) (λ k less. each k (omega (arith, long)) ∙ by k (omega (arith, long)) (leb_tells n k))
+  where
+    by : (k : ℕ) → k < 32 → ((leb n k ≡ true) × (n ≤ k)) ⊎ ((leb n k ≡ false) × (k < n)) → cond (ltb k n) (key_for drawn own k) blank_key ≡ get_or (keys_for drawn own n) k blank_key
+    by k less (inl e) =
+        let past : ltb k n ≡ false = grind (arith, nat_tests) in
+        ap (λ b. cond b (key_for drawn own k) blank_key) past ∙ sym (keys_past drawn own n k e.1 less)
+    by k less (inr e) =
+        let below : ltb k n ≡ true = grind (arith, nat_tests) in
+        ap (λ b. cond b (key_for drawn own k) blank_key) below ∙ sym (keys-at drawn own n k e.1 few)
 
 -- the key of a pair is the same at both ends
 key-same : (drawn : List ℕ) (i j : ℕ) → key_for drawn i j ≡ key_for drawn j i

@@ -8,4 +8,7 @@ mod Written
 mod Agreeing
 pub mod Growing
 mod Taken
+mod Places
+mod Nearest
+mod Calling
 mod Ruling

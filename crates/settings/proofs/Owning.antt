@@ -15,7 +15,7 @@ block f z a some whole low high =
     sym own ∙ ap (λ q. q * z) (sym same)
 
 -- two prefixes of one size that hold one address are the same
-one_block : (r s : Range) (m k a : ℕ) → PrefixOf m r → PrefixOf k s → holds r a ≡ true → holds s a ≡ true → span r ≡ span s → same_range r s ≡ true
+pub one_block : (r s : Range) (m k a : ℕ) → PrefixOf m r → PrefixOf k s → holds r a ≡ true → holds s a ≡ true → span r ≡ span s → same_range r s ≡ true
 one_block r s m k a p q hr hs e =
     let zr : ℕ = 2 ^ (32 - m) in
     let zs : ℕ = 2 ^ (32 - k) in

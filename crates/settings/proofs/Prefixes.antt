@@ -1,5 +1,5 @@
 -- Whether a range is a prefix, decided by trying every length. Assumes nothing.
-use Rattle.std.proofs.Common.{◌≡◌, ℕ, ◌<◌, true, false, is_some, Some, None, Decides, Option, refl, arith, MatchOption}
+use Rattle.std.proofs.Common.{◌≡◌, ℕ, ◌<◌, ◌≤◌, true, false, is_some, Some, None, Decides, Option, sym, refl, ◌∙◌, arith, MatchOption}
 use Rattle.std.proofs.lemmas.Bool.Decides.{nat_tests, Decides-below_or, same_from_decides}
 use Rattle.settings.specs.declared.ranges.Range.{Range}
 use Rattle.settings.specs.Ranges.{PrefixOf, IsPrefix, has_length, prefix_below, is_prefix}
@@ -10,6 +10,14 @@ length-is r n small passed = record { within = omega arith; begins = grind (arit
 
 pub length_passes : (r : Range) (n : ℕ) → PrefixOf n r → has_length r n ≡ true
 length_passes r n is = grind (arith, nat_tests)
+
+-- the first length that passes is that of the prefix
+pub first_is : (r : Range) (o : Option ℕ) → MatchOption o ((k : ℕ) → 0 ≤ k → k < 33 → has_length r k ≡ false) (λ i. (0 ≤ i) × (i < 33) × (has_length r i ≡ true) × ((k : ℕ) → 0 ≤ k → k < i → has_length r k ≡ false)) → MatchOption o (IsPrefix r → ⊥) (λ bits. PrefixOf bits r)
+first_is r None none = λ is. clash (sym (length_passes r is.0 is.1) ∙ none is.0 (omega arith) (omega (arith, is.1)))
+  where
+    clash : true ≡ false → ⊥
+    clash e = let z : ◌≡◌ {A = ℕ} 0 1 = cc in omega arith
+first_is r (Some bits) found = length-is r bits found.1 found.2
 
 -- the test decides exactly whether a range is a prefix
 pub prefix_decides : (r : Range) → Decides (is_prefix r) (IsPrefix r)

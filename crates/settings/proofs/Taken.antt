@@ -15,10 +15,10 @@ use Rattle.settings.specs.declared.ranges.Range.{Range}
 use Rattle.settings.specs.declared.reading.Header.{Header}
 use Rattle.settings.specs.Faults.{header_fault, entry_fault, and_then}
 use Rattle.settings.specs.Fields.{number_from, part, number_at, bytes_in, number_in, between, checked}
-use Rattle.settings.specs.Layout.{entry_at}
+use Rattle.settings.specs.Layout.{first_at, last_at, entry_at}
 use Rattle.settings.specs.Ranges.{blank_range}
 use Rattle.settings.specs.Plans.{blank_key, empty_settings, settings_with, range_cause, key_at}
-use Rattle.settings.specs.Reading.{header_read, all_zero, key_checked, range_unless, range_read, entry_read, entries_read, settings_read}
+use Rattle.settings.specs.Reading.{header_read, address_field, all_zero, key_checked, range_unless, range_read, entry_read, entries_read, settings_read}
 use Rattle.settings.specs.Sound.{Padded, SoundPlan, Sound, WritesBack}
 use Rattle.settings.specs.Writing.{two, four, header_bytes, place_bytes, entry_bytes, entries_bytes, bytes_of}
 use Rattle.settings.proofs.Growing.{empty_sound, padded_more, cause_none, put_each, more_sound}
@@ -129,23 +129,23 @@ entry_is bs at k r o all long key first last out =
     ∙ take-append-drop 32 xs
 
 -- what was read before the entries
-record HeadIs (bs : List ℕ) (h : Header) : Type 0 where
-  long : 11 ≤ length bs
-  version : number_at bs 0 1 ≡ 1
-  gates : number_at bs 1 1 ≡ h.gates
-  own : number_at bs 2 1 ≡ h.own
-  life : number_at bs 3 2 ≡ h.life
-  most : number_at bs 5 4 ≡ h.most
-  window : number_at bs 9 2 ≡ 2048
-  some : 1 ≤ h.gates
-  few : h.gates ≤ 32
-  below : h.own ≤ h.gates - 1
-  life_low : 1 ≤ h.life
-  life_high : h.life ≤ 3600
-  most_low : 17 ≤ h.most
-  most_high : h.most ≤ 4294967295
+pub record HeadIs (bs : List ℕ) (h : Header) : Type 0 where
+  pub long : 11 ≤ length bs
+  pub version : number_at bs 0 1 ≡ 1
+  pub gates : number_at bs 1 1 ≡ h.gates
+  pub own : number_at bs 2 1 ≡ h.own
+  pub life : number_at bs 3 2 ≡ h.life
+  pub most : number_at bs 5 4 ≡ h.most
+  pub window : number_at bs 9 2 ≡ 2048
+  pub some : 1 ≤ h.gates
+  pub few : h.gates ≤ 32
+  pub below : h.own ≤ h.gates - 1
+  pub life_low : 1 ≤ h.life
+  pub life_high : h.life ≤ 3600
+  pub most_low : 17 ≤ h.most
+  pub most_high : h.most ≤ 4294967295
 
-head_is : (bs : List ℕ) (h : Header) → header_read bs ≡ Ok h → HeadIs bs h
+pub head_is : (bs : List ℕ) (h : Header) → header_read bs ≡ Ok h → HeadIs bs h
 unfolding header_read
 head_is bs h e =
     let v = then-inv _ _ h e in
@@ -219,6 +219,15 @@ record EntryIs (bs : List ℕ) (at own gate : ℕ) (p : Plan) (k : Key) (r : Ran
 unless_is : (gate : ℕ) (q r : Range) (why : Option Cause) → range_unless gate q why ≡ Ok r → (q ≡ r) × (why ≡ None)
 unless_is gate q r None e = (cc, refl)
 unless_is gate q r (Some c) e = absurd (let z : ◌≡◌ {A = ℕ} 0 1 = cc in omega arith)
+
+-- a range that was read may be added
+pub range_free : (bs : List ℕ) (p : Plan) (gate : ℕ) (r : Range) → range_read bs p gate ≡ Ok r → range_cause p r ≡ None
+unfolding range_read
+range_free bs p gate r e =
+    let f = then-inv (address_field bs field.Range gate first_at) (λ x. and_then (address_field bs field.Range gate last_at) (λ l. range_unless gate (record { first = x; last = l }) (range_cause p (record { first = x; last = l })))) r e in
+    let l = then-inv (address_field bs field.Range gate last_at) (λ l. range_unless gate (record { first = f.0; last = l }) (range_cause p (record { first = f.0; last = l }))) r f.2 in
+    let u = unless_is gate (record { first = f.0; last = l.0 }) r _ l.2 in
+    ap (range_cause p) (sym u.0) ∙ u.1
 
 entry_read_lem : (bs : List ℕ) (i : ℕ) (s t : Settings) → entry_read bs i s ≡ Ok t → (k : Key) × (r : Range) × (o : ℕ) × EntryIs bs (entry_at i) s.own i s.plan k r o × (settings_with s k r o ≡ t)
 unfolding entry_read range_read

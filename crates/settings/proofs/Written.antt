@@ -15,11 +15,12 @@ use Rattle.settings.specs.declared.ranges.Range.{Range}
 use Rattle.settings.specs.Faults.{header_fault, entry_fault, and_then}
 use Rattle.settings.specs.Fields.{number_from, part, number_at, bytes_in, number_in, between, checked}
 use Rattle.settings.specs.Layout.{version_at, gates_at, own_at, life_at, most_at, window_at, first_at, last_at, outside_at, entry_at}
-use Rattle.settings.specs.Ranges.{blank_range, range_at, is_prefix, same_range, first_of, same_below}
+use Rattle.settings.specs.Ranges.{blank_range, range_at, is_prefix, same_range, same_below}
 use Rattle.settings.specs.Plans.{blank_key, range_cause, key_at, outside_of}
 use Rattle.settings.specs.Reading.{header_field, header_read, address_field, all_zero, key_checked, range_unless, range_read, entry_read, entries_read, settings_read}
 use Rattle.settings.specs.Sound.{filled, SoundPlan, Sound, ReadsBack}
 use Rattle.settings.specs.Writing.{two, four, header_bytes, place_bytes, entry_bytes, entries_bytes, bytes_of}
+use Rattle.settings.proofs.Below.{none_same}
 use Rattle.settings.proofs.Numbers.{number_there, bytes_there}
 use Rattle.settings.proofs.Prefixes.{prefix_decides}
 use Rattle.settings.proofs.Steps.{after-ok}
@@ -77,12 +78,6 @@ filled_at : {A : Type 0} (i j : ℕ) (blank : A) (xs : List A) → j < i → i �
 filled_at i j blank xs less within =
     let long : length (take i xs) ≡ i = length-take-le i xs within in
     get_or_append_left (take i xs) (replicate (32 - i) blank) blank j (omega arith) ∙ get_or-take i xs j blank less
-
--- a range that no gate below has
-none-same : (rs : List Range) (r : Range) (n : ℕ) → ((j : ℕ) → j < n → same_range (range_at rs j) r ≡ false) → same_below rs r n ≡ None
-none-same rs r zero other = refl
-none-same rs r (suc n) other =
-    λ k. first_of (none-same rs r n (λ j less. other j (omega arith)) k) (cond (other n (omega arith) k) (Some n) None)
 
 -- an entry behind a front of n bytes
 module _ (front key rest : List ℕ) (r : Range) (o n : ℕ) (long : length front ≡ n) (size : length key ≡ 32) where
@@ -170,7 +165,7 @@ module _ (s : Settings) (ok : Sound s) where
       let last : Ok r.last ≡ address_field bs field.Range i last_at = checked-ok (entry_fault field.Range i) bs (entry_at i + 36) 4 0 4294967295 r.last (omega arith) (ap (λ b. number_at b (entry_at i + 36) 4) split ∙ last_read front k.bytes rest r o (entry_at i) long size (p.lasts i less)) (omega arith) (omega (arith, p.lasts i less)) in
       let outside : Ok o ≡ address_field bs field.Outside i outside_at = checked-ok (entry_fault field.Outside i) bs (entry_at i + 40) 4 0 4294967295 o (omega arith) (ap (λ b. number_at b (entry_at i + 40) 4) split ∙ outside-read front k.bytes rest r o (entry_at i) long size (p.outsides i less)) (omega arith) (omega (arith, p.outsides i less)) in
       let whole : is_prefix r ≡ true = (prefix_decides r).1 (p.table.prefixes i less) in
-      let apart : same_below (filled i blank_range s.plan.ranges) r i ≡ None = none-same _ r i (λ j below. ap (λ q. same_range q r) (filled_at i j blank_range s.plan.ranges below (omega (arith, rp.long, few))) ∙ p.table.apart j i below less) in
+      let apart : same_below (filled i blank_range s.plan.ranges) r i ≡ None = none_same _ r i (λ j below. ap (λ q. same_range q r) (filled_at i j blank_range s.plan.ranges below (omega (arith, rp.long, few))) ∙ p.table.apart j i below less) in
       let ranged : Ok r ≡ range_read bs (built i).plan i = sym (after-ok _ first ∙ after-ok _ last ∙ (λ j. range_unless i r (cond {A = Option Cause} (whole j) (option_map Repeats (apart j)) (Some Wrong)))) in
       sym (after-ok _ keyed ∙ after-ok _ ranged ∙ after-ok _ outside ∙ (λ j. Ok (record { own = s.own; plan = record { life = s.plan.life; most = s.plan.most; gates = i + 1; ranges = filled_more i blank_range s.plan.ranges (omega (arith, few)) rp.long j; outside = filled_more i 0 s.plan.outside (omega (arith, few)) p.outside_padded.long j }; keys = filled_more i blank_key s.keys (omega (arith, few)) ok.keys_padded.long j })))
 

@@ -29,6 +29,11 @@ number_in bytes at size = cond (nat_le (at + size) (length bytes)) (Some (number
 abbrev pub between : ℕ → ℕ → ℕ → Bool
 between least limit n = nat_le least n && nat_le n limit
 
+-- a value that is there and fits; else the fault, given the cause
+abbrev pub checked_by : {A : Type 0} → (A → Bool) → (Cause → Fault) → Option A → Result A Fault
+checked_by fits fault None = Err (fault Missing)
+checked_by fits fault (Some x) = cond (fits x) (Ok x) (Err (fault Wrong))
+
 -- a number that is there and lies between two others; else the fault, given the cause
 abbrev pub checked : (Cause → Fault) → ℕ → ℕ → Option ℕ → Result ℕ Fault
 checked fault least limit None = Err (fault Missing)

@@ -2,6 +2,8 @@ pub mod Layout
 pub mod Faults
 pub mod Ranges
 pub mod Owners
+pub mod Shared
+pub mod Sites
 pub mod Fields
 pub mod Plans
 pub mod Reading

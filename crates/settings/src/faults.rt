@@ -6,6 +6,7 @@ ghost use Rattle.settings.specs.Faults.{header_fault, entry_fault};
 ghost use Rattle.settings.specs.declared.faults.Cause.TheVariants as causes;
 
 use protocol::Refusal;
+use std::error::Error;
 use std::fmt;
 
 /// A field of settings.
@@ -76,6 +77,7 @@ impl Fault {
     }
 
     /// The refusal of every fault of settings.
+    // A method, as an io::Error's kind(): no function passes a fault on as a refusal.
     pub fn refusal(self) -> Refusal
         ensures { result ≡ BadSettings }
     {
@@ -84,34 +86,38 @@ impl Fault {
 }
 
 // The field in words, as a sentence goes on after 'the'.
-fn name(field: Field) -> &'static str {
-    match field {
-        Field::Version => "version",
-        Field::Gates => "number of gates",
-        Field::Own => "own number",
-        Field::Life => "life",
-        Field::Most => "most",
-        Field::Window => "window",
-        Field::Key => "key",
-        Field::Range => "range",
-        Field::Outside => "address outside",
-        Field::End => "end",
+impl fmt::Display for Field {
+    fn fmt<W: fmt::Write>(&self, f: &mut fmt::Formatter<W>) -> fmt::Result {
+        f.write_str(match self {
+            Field::Version => "version",
+            Field::Gates => "number of gates",
+            Field::Own => "own number",
+            Field::Life => "life",
+            Field::Most => "most",
+            Field::Window => "window",
+            Field::Key => "key",
+            Field::Range => "range",
+            Field::Outside => "address outside",
+            Field::End => "end",
+        })
     }
 }
 
-// What a field has to be, for people.
-fn rule(field: Field) -> &'static str {
-    match field {
-        Field::Version => "it is 1",
-        Field::Gates => "there are 1 to 32",
-        Field::Own => "it is below the number of gates",
-        Field::Life => "it is 1 to 3600 ticks",
-        Field::Most => "it is 17 to 4294967295 packets",
-        Field::Window => "it is 2048",
-        Field::Key => "a gate's key with itself is zeros",
-        Field::Range => "it is all the addresses of one prefix",
-        Field::Outside => "it is any address",
-        Field::End => "nothing stands behind the last entry",
+impl Field {
+    // What the field has to be, for people.
+    fn rule(self) -> &'static str {
+        match self {
+            Field::Version => "it is 1",
+            Field::Gates => "there are 1 to 32",
+            Field::Own => "it is below the number of gates",
+            Field::Life => "it is 1 to 3600 ticks",
+            Field::Most => "it is 17 to 4294967295 packets",
+            Field::Window => "it is 2048",
+            Field::Key => "a gate's key with itself is zeros",
+            Field::Range => "it is all the addresses of one prefix",
+            Field::Outside => "it is any address",
+            Field::End => "nothing stands behind the last entry",
+        }
     }
 }
 
@@ -120,8 +126,8 @@ impl fmt::Display for Fault {
         if let Some(gate) = self.gate {
             write!(f, "gate {gate}: ")?;
         }
-        let field = name(self.field);
-        let rule = rule(self.field);
+        let field = self.field;
+        let rule = field.rule();
         match self.cause {
             Cause::Missing => write!(f, "the bytes end before the end of the {field}"),
             Cause::Wrong => write!(f, "the {field} is wrong: {rule}"),
@@ -129,3 +135,5 @@ impl fmt::Display for Fault {
         }
     }
 }
+
+impl Error for Fault {}

@@ -16,8 +16,17 @@
 ghost use Rattle.std.specs.Prelude.{◌≡◌};
 ghost use Rattle.settings.specs.Layout.{version_at, gates_at, own_at, life_at, most_at, window_at, header_size, key_size, first_at, last_at, outside_at, entry_size, version_number};
 
+use protocol::limits::{MAX_GATES, WINDOW};
+
 /// The only version there is.
 pub const VERSION: u32 = 1;
+
+// The only version and window and the most gates, as wide as their fields.
+pub(crate) const ONLY_VERSION: u8 = VERSION as u8;
+
+pub(crate) const ONLY_WINDOW: u16 = WINDOW as u16;
+
+pub(crate) const LAST_GATES: u8 = MAX_GATES as u8;
 
 /// Where the version stands (1 byte).
 pub const VERSION_AT: usize = 0;

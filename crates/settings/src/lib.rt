@@ -14,6 +14,6 @@ mod writing;
 pub use faults::{Cause, Fault, Field};
 pub use making::{DRAWN, MakeFault, make_all, pairs_apart_stated};
 pub use plans::{Key, Plan, Settings, runs_stated};
-pub use ranges::{NOBODY, Range, owner_stated};
+pub use ranges::{Range, owner_stated};
 pub use reading::read;
 pub use writing::{reads_back_stated, writes_back_stated};

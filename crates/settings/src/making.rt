@@ -1,14 +1,16 @@
 // The settings of all gates from one plan and drawn bytes: the keys at both ends of a pair are the
 // same. Assumes nothing.
-ghost use Rattle.std.specs.Prelude.{◌≡◌, ◌+◌, ◌*◌, ◌<◌, ◌≤◌, ◌⊎◌, length, IfOk, IfErr, Some, None};
+ghost use Rattle.std.specs.Prelude.{◌≡◌, ◌<◌, ◌≤◌, ◌⊎◌, cond, nat_lt, length, IfOk, IfErr, Some, None};
 ghost use Rattle.settings.specs.declared.making.MakeFault.TheVariants.{NoMemory};
-ghost use Rattle.settings.specs.Sound.{SoundPlan};
+ghost use Rattle.settings.specs.Plans.{blank_key};
 ghost use Rattle.settings.specs.Making.{pair_place, drawn_needed, key_for, settings_for, all_settings, make_fault, Agree, AllRead, PairsApart};
 
 use crate::layout::KEY;
 use crate::plans::{Key, Plan, Settings};
 use protocol::limits::MAX_GATES;
-use std::alloc::Global;
+use std::alloc::{AllocError, Global};
+use std::error::Error;
+use std::{array, fmt};
 
 /// How many drawn bytes a gate needs: a row of as many keys as there can be gates.
 pub const DRAWN: usize = MAX_GATES * KEY;
@@ -24,26 +26,46 @@ pub enum MakeFault {
     NoMemory,
 }
 
-// Which of the drawn keys is that of two gates.
-fn pair_place(a: u8, b: u8) -> usize
-    ensures { result ≡ pair_place a b }
-{
-    let x = usize::from(a);
-    let y = usize::from(b);
-    if a < b { 32 * y + x } else { 32 * x + y }
+impl fmt::Display for MakeFault {
+    fn fmt<W: fmt::Write>(&self, f: &mut fmt::Formatter<W>) -> fmt::Result {
+        f.write_str(match self {
+            MakeFault::WrongGates => "the plan has no gates, or too many",
+            MakeFault::FewDrawn => "there are fewer drawn bytes than 1024 for each gate",
+            MakeFault::NoMemory => "there is no memory",
+        })
+    }
 }
 
-// The key of a gate with a gate: zeros with itself.
-fn key_for(drawn: &[u8], own: u8, gate: u8) -> Key
-    requires { 32 * pair_place own gate + 32 ≤ length drawn.now }
-    ensures { result ≡ key_for drawn.now own gate }
-{
-    let mut bytes = [0u8; KEY];
-    if gate != own {
-        let at = KEY * pair_place(own, gate);
-        bytes.copy_from_slice(&drawn[at..at + KEY]);
+impl Error for MakeFault {}
+
+impl From<AllocError> for MakeFault {
+    ghost from_gives = { λ _ e. e ≡ NoMemory };
+
+    fn from(_: AllocError) -> Self {
+        Self::NoMemory
     }
-    Key { bytes }
+}
+
+// Which of the drawn keys is that of two gates.
+fn pair_place(a: usize, b: usize) -> usize
+    requires { (a < 32) × (b < 32) }
+    ensures { result ≡ pair_place a b }
+{
+    MAX_GATES * a.max(b) + a.min(b)
+}
+
+// The key of a gate with a number: zeros with itself, and where no gate has the number.
+#[tactic(auto, using(crate::proofs::Agreeing::pair_within))]
+fn key_for(drawn: &[u8], gates: usize, own: usize, gate: usize) -> Key
+    requires { (own < gates) × ((gates ≤ 32) × (drawn_needed gates ≤ length drawn.now)) }
+    ensures { result ≡ cond (nat_lt gate gates) (key_for drawn.now own gate) blank_key }
+{
+    let mut key = Key::default();
+    if gate < gates && gate != own {
+        let at = KEY * pair_place(own, gate);
+        key.bytes.copy_from_slice(&drawn[at..at + KEY]);
+    }
+    key
 }
 
 // The settings of one gate.
@@ -51,10 +73,8 @@ fn settings_for(plan: Plan, drawn: &[u8], own: u8) -> Settings
     requires { (own < plan.gates) × ((plan.gates ≤ 32) × (drawn_needed plan.gates ≤ length drawn.now)) }
     ensures { result ≡ settings_for plan drawn.now own }
 {
-    let mut keys = [Key { bytes: [0; 32] }; 32];
-    for gate in 0..plan.gates {
-        keys[usize::from(gate)] = key_for(drawn, own, gate);
-    }
+    let gates = usize::from(plan.gates());
+    let keys = array::from_fn(|gate| key_for(drawn, gates, usize::from(own), gate));
     Settings { own, plan, keys }
 }
 
@@ -66,21 +86,18 @@ pub fn make_all(heap: Global, plan: Plan, drawn: &[u8]) -> Result<Vec<Settings>,
     ensures fault { IfErr result (λ e. (e ≡ NoMemory) ⊎ (make_fault plan drawn.now ≡ Some e)) }
     ensures able { IfOk result (λ v. make_fault plan drawn.now ≡ None) }
     ensures agree { IfOk result (λ v. Agree v.items) }
-    ensures reads { SoundPlan plan → IfOk result (λ v. AllRead v.items) }
+    ensures reads { IfOk result (λ v. AllRead v.items) }
 {
-    if plan.gates == 0 || usize::from(plan.gates) > MAX_GATES {
+    let gates = plan.gates();
+    if gates == 0 {
         return Err(MakeFault::WrongGates);
     }
-    if drawn.len() < DRAWN * usize::from(plan.gates) {
+    if drawn.len() < DRAWN * usize::from(gates) {
         return Err(MakeFault::FewDrawn);
     }
-    let mut all = Vec::new(heap);
-    for own in 0..plan.gates {
-        let settings = settings_for(plan, drawn, own);
-        if all.push(settings).is_err() {
-            return Err(MakeFault::NoMemory);
-        }
-    }
+    let all = (0..gates)
+        .map(|own| settings_for(plan, drawn, own))
+        .collect(heap)?;
     Ok(all)
 }
 

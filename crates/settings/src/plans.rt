@@ -1,34 +1,70 @@
 // What all gates share, and the settings of one gate. Memory is fixed: places past the last gate
 // are blank. Assumes nothing.
-ghost use Rattle.std.specs.Prelude.{◌≡◌, ◌<◌, IfOk, slice_index_or};
+ghost use Rattle.std.specs.Prelude.{◌≡◌, ◌<◌, ◌≤◌, IfOk, None};
+ghost use Rattle.protocol.specs.Limits.{life_least, life_limit, most_least};
 ghost use Rattle.settings.specs.Sound.{SoundPlan};
 ghost use Rattle.settings.specs.Runs.{RunsAreOwned};
-ghost use Rattle.settings.specs.Ranges.{range_at, as_gate};
-ghost use Rattle.settings.specs.Plans.{empty_plan, plan_with, empty_settings, settings_with, range_cause, owner_in, new_plan, add_to, blank_key, key_at, outside_of};
+ghost use Rattle.settings.specs.Ranges.{range_at, same_below, as_gate};
+ghost use Rattle.settings.specs.Plans.{empty_plan, plan_with, range_cause, owner_in, new_plan, add_to, blank_key, key_at, outside_of};
 
 use crate::faults::{Cause, Fault, Field};
-use crate::ranges::{Range, owner_below, range_at, same_below};
+use crate::layout::KEY;
+use crate::ranges::Range;
 use protocol::limits::{MAX_GATES, MAX_LIFE, MIN_LIFE, MIN_MOST};
+use std::marker::Model;
 
 /// A pair key.
-#[derive(Clone, Copy, Debug)]
+#[derive(Clone, Copy, Debug, PartialEq, Eq)]
 pub struct Key {
-    pub(crate) bytes: [u8; 32],
+    pub(crate) bytes: [u8; KEY],
+}
+
+// The key of zeros.
+impl Default for Key {
+    ghost is_default = { λ k. k ≡ blank_key };
+
+    fn default() -> Self {
+        Key { bytes: [0; KEY] }
+    }
+}
+
+// What a plan says of one gate: the range that it owns and its address outside.
+#[derive(Clone, Copy, Debug, Default, PartialEq, Eq)]
+pub struct Site {
+    range: Range,
+    outside: u32,
 }
 
 /// What all gates share: the life of a talk, the most packets that one sends, and for each gate
-/// the range that it owns and its address outside.
-#[derive(Clone, Copy, Debug)]
+/// the range that it owns and its address outside. Each plan is one that settings allow.
+#[derive(Clone, Copy, Debug, PartialEq, Eq)]
 pub struct Plan {
-    pub(crate) life: u16,
-    pub(crate) most: u32,
-    pub(crate) gates: u8,
-    pub(crate) ranges: [Range; 32],
-    pub(crate) outside: [u32; 32],
+    life: u16,
+    most: u32,
+    gates: u8,
+    sites: [Site; 32],
+}
+
+impl Model for Plan {
+    ghost use Rattle.settings.specs.Shared.{Shared};
+
+    ghost Value = { Shared };
+
+    ghost use Rattle.settings.specs.Sites.{shared, sites_of, sites_back};
+    ghost use Rattle.settings.specs.Sound.{SoundPlan};
+
+    ghost view = { λ p. shared p.life p.most p.gates p.sites };
+
+    ghost invariant = { λ p. SoundPlan (shared p.life p.most p.gates p.sites) };
+
+    ghost inverse = { λ v. record { life = v.life; most = v.most; gates = v.gates; sites = sites_of v.ranges v.outside } };
+
+    ghost inverse_ok = { λ p h i. record { life = p.life; most = p.most; gates = p.gates; sites = sites_back p.sites i } };
 }
 
 /// The settings of one gate: what all gates share, its own number, and its key with each gate.
-#[derive(Clone, Copy, Debug)]
+// The keys stand beside the plan, and not in its sites, since all gates have one plan.
+#[derive(Clone, Copy, Debug, PartialEq, Eq)]
 pub struct Settings {
     pub(crate) own: u8,
     pub(crate) plan: Plan,
@@ -38,40 +74,44 @@ pub struct Settings {
 impl Plan {
     // A plan with no gates.
     pub(crate) fn empty(life: u16, most: u32) -> Self
+        requires { (life_least ≤ life) × (life ≤ life_limit) × (most_least ≤ most) }
         ensures { result ≡ empty_plan life most }
     {
         Plan {
             life,
             most,
             gates: 0,
-            ranges: [Range { first: 0, last: 0 }; 32],
-            outside: [0; 32],
+            sites: [Site::default(); 32],
         }
     }
 
     // The plan with one gate more.
     pub(crate) fn with(mut self, range: Range, outside: u32) -> Self
-        requires { self.gates < 32 }
+        requires { (self.gates < 32) × (range_cause self range ≡ None) }
         ensures { result ≡ plan_with self range outside }
     {
         let at = usize::from(self.gates);
-        self.ranges[at] = range;
-        self.outside[at] = outside;
+        self.sites[at] = Site { range, outside };
         self.gates += 1;
         self
     }
 
+    // The first gate that has this range.
+    fn gate_with(&self, range: Range) -> Option<u8>
+        ensures { result ≡ same_below self.now.ranges range self.now.gates }
+    {
+        (0..self.gates).find(|gate| self.range(*gate) == range)
+    }
+
     // Why a range may not be added: it is no whole prefix, or an earlier gate has it.
-    pub(crate) fn range_cause(self, range: Range) -> Option<Cause>
-        ensures { result ≡ range_cause self range }
+    #[tactic(auto, unfolding(crate::specs::Plans::range_cause))]
+    pub(crate) fn range_cause(&self, range: Range) -> Option<Cause>
+        ensures { result ≡ range_cause self.now range }
     {
         if !range.is_prefix() {
             return Some(Cause::Wrong);
         }
-        match same_below(&self.ranges, range, self.gates) {
-            Some(gate) => Some(Cause::Repeats(gate)),
-            None => None,
-        }
+        self.gate_with(range).map(Cause::Repeats)
     }
 
     /// A plan with no gates yet. Refuses a life or most that is out of range, and names which.
@@ -92,15 +132,15 @@ impl Plan {
     /// place, and a range that is no whole prefix or that an earlier gate has.
     pub fn add(self, range: Range, outside: u32) -> Result<Self, Fault>
         ensures value { result ≡ add_to self range outside }
-        ensures sound { SoundPlan self → IfOk result SoundPlan }
+        ensures sound { IfOk result SoundPlan }
     {
         if usize::from(self.gates) >= MAX_GATES {
             return Err(Fault::in_header(Field::Gates, Cause::Wrong));
         }
-        let Some(cause) = self.range_cause(range) else {
-            return Ok(self.with(range, outside));
-        };
-        Err(Fault::in_entry(Field::Range, self.gates, cause))
+        match self.range_cause(range) {
+            Some(cause) => Err(Fault::in_entry(Field::Range, self.gates, cause)),
+            None => Ok(self.with(range, outside)),
+        }
     }
 
     /// The life of a talk, in ticks. It changes nothing.
@@ -117,26 +157,36 @@ impl Plan {
         self.most
     }
 
-    /// How many gates there are. It changes nothing.
+    /// How many gates there are, in a plan that settings allow. It changes nothing.
     pub fn gates(&self) -> u8
-        ensures { result ≡ self.now.gates }
+        ensures value { result ≡ self.now.gates }
+        ensures sound { SoundPlan self.now }
     {
         self.gates
+    }
+
+    // What is said of a gate; the blank site for a number that no gate has.
+    fn site(&self, gate: u8) -> Site
+        ensures { result ≡ record { range = range_at self.now.ranges gate; outside = outside_of self.now gate } }
+    {
+        self.sites
+            .get(usize::from(gate))
+            .copied()
+            .unwrap_or_default()
     }
 
     /// The range of a gate; the blank one for a number that no gate has. It changes nothing.
     pub fn range(&self, gate: u8) -> Range
         ensures { result ≡ range_at self.now.ranges gate }
     {
-        range_at(&self.ranges, gate)
+        self.site(gate).range
     }
 
     /// The address outside of a gate; 0 for a number that no gate has. It changes nothing.
     pub fn outside(&self, gate: u8) -> u32
         ensures { result ≡ outside_of self.now gate }
     {
-        let at = usize::from(gate);
-        if at < MAX_GATES { self.outside[at] } else { 0 }
+        self.site(gate).outside
     }
 
     /// The gate that owns an address, the one with the longest prefix that holds it, or none where
@@ -144,36 +194,13 @@ impl Plan {
     pub fn owner(&self, address: u32) -> Option<u8>
         ensures { result ≡ as_gate (owner_in self.now address) }
     {
-        owner_below(&self.ranges, address, self.gates)
+        (0..self.gates)
+            .filter(|gate| self.range(*gate).holds(address))
+            .min_by_key(|gate| self.range(*gate).span())
     }
 }
 
 impl Settings {
-    // Settings with no entries.
-    pub(crate) fn empty(own: u8, life: u16, most: u32) -> Self
-        ensures { result ≡ empty_settings own life most }
-    {
-        Settings {
-            own,
-            plan: Plan::empty(life, most),
-            keys: [Key { bytes: [0; 32] }; 32],
-        }
-    }
-
-    // The settings with one gate's entry more.
-    pub(crate) fn with(self, key: Key, range: Range, outside: u32) -> Self
-        requires { self.plan.gates < 32 }
-        ensures { result ≡ settings_with self key range outside }
-    {
-        let mut keys = self.keys;
-        keys[usize::from(self.plan.gates)] = key;
-        Settings {
-            own: self.own,
-            plan: self.plan.with(range, outside),
-            keys,
-        }
-    }
-
     /// The gate's own number. It changes nothing.
     pub fn own(&self) -> u8
         ensures { result ≡ self.now.own }
@@ -193,19 +220,10 @@ impl Settings {
     pub fn key(&self, gate: u8) -> Key
         ensures { result ≡ key_at self.now gate }
     {
-        key_at(&self.keys, gate)
-    }
-}
-
-// The key with a gate, or zeros where there is none.
-fn key_at(keys: &[Key], gate: u8) -> Key
-    ensures { result ≡ slice_index_or keys.now gate blank_key }
-{
-    let at = usize::from(gate);
-    if at < keys.len() {
-        keys[at]
-    } else {
-        Key { bytes: [0; 32] }
+        self.keys
+            .get(usize::from(gate))
+            .copied()
+            .unwrap_or_default()
     }
 }
 

@@ -1,9 +1,12 @@
-use Rattle.std.proofs.Common.{◌≡◌, ◌+◌, set, ap, ◌∙◌, add-one}
-use Rattle.std.proofs.lemmas.List.{length-set}
+use Rattle.std.proofs.Common.{◌≡◌, ◌≤◌, cond, ltb, arith, rules}
 use Rattle.settings.specs.Making.{key_for, keys_for}
+use Rattle.settings.specs.Plans.{blank_key}
+use Rattle.settings.proofs.Agreeing.{keys_made}
+use Rattle.settings.proofs.Calling.{from_fn_gives}
 use Rattle.settings.proofs.making.settings_for.Goals as goal
 
-pub loop-gate-preserved : goal.loop-gate-preserved
-loop-gate-preserved c =
-    let more : keys_for c.args.drawn.now c.args.own (c.loop-gate.gate + 1) ≡ set (keys_for c.args.drawn.now c.args.own c.loop-gate.gate) c.loop-gate.gate (key_for c.args.drawn.now c.args.own c.loop-gate.gate) = ap (keys_for c.args.drawn.now c.args.own) (add-one c.loop-gate.gate) in
-    (cc, length-set c.loop-gate.keys c.from.result c.key_for.result ∙ c.loop-gate.invariant.1)
+pub returns : goal.returns
+returns c =
+    let few : c.args.plan.gates ≤ 32 = omega arith in
+    let keys : c.from_fn-keys.result ≡ keys_for c.args.drawn.now c.args.own c.args.plan.gates = keys_made c.args.drawn.now c.args.own c.args.plan.gates c.from_fn-keys.result few c.from_fn-keys.ensures.items.long (λ k less. from_fn_gives _ (λ i. cond (ltb i c.args.plan.gates) (key_for c.args.drawn.now c.args.own i) blank_key) _ (λ i y q called. search rules) c.from_fn-keys.result 0 32 c.from_fn-keys.ensures.items.each k blank_key (omega arith) (omega arith)) in
+    λ j. record { own = c.args.own; plan = c.args.plan; keys = keys j }

@@ -1,18 +1,11 @@
-use Rattle.std.proofs.Common.{◌≡◌, ◌+◌, ◌&&◌, eqb, get_or, drop, sym, ◌∙◌, arith}
-use Rattle.std.proofs.lemmas.List.{at_drop_more, at_drop_all}
-use Rattle.std.proofs.lemmas.Bool.Decides.{nat_tests}
-use Rattle.settings.specs.Reading.{all_zero}
+use Rattle.std.proofs.Common.{◌∙◌, eqb, rules}
+use Rattle.std.proofs.lemmas.Iterator.{YieldsList-from_slice}
+use Rattle.std.proofs.lemmas.Iterator.Search.{all_from_yields_List}
+use Rattle.settings.proofs.Numbers.{all_zero_is}
 use Rattle.settings.proofs.reading.all_zero.Goals as goal
-
-pub returns-then-byte-ne0 : goal.returns-then-byte-ne0
-returns-then-byte-ne0 c =
-    let left : all_zero (drop c.loop-byte.byte-index c.args.bytes.now) ≡ (eqb (get_or c.args.bytes.now c.loop-byte.byte-index 0) 0 && all_zero (drop (c.loop-byte.byte-index + 1) c.args.bytes.now)) = at_drop_more all_zero c.args.bytes.now c.loop-byte.byte-index 0 (omega arith) in
-    grind (arith, nat_tests)
-
-pub loop-byte-preserved : goal.loop-byte-preserved
-loop-byte-preserved c =
-    let left : all_zero (drop c.loop-byte.byte-index c.args.bytes.now) ≡ (eqb (get_or c.args.bytes.now c.loop-byte.byte-index 0) 0 && all_zero (drop (c.loop-byte.byte-index + 1) c.args.bytes.now)) = at_drop_more all_zero c.args.bytes.now c.loop-byte.byte-index 0 (omega arith) in
-    grind (arith, nat_tests)
+use borrow.Author.Tests.{tests}
 
 pub returns : goal.returns
-returns c = sym (at_drop_all all_zero c.args.bytes.now c.loop-byte.byte-index (omega arith)) ∙ c.loop-byte.invariant
+returns c =
+    all_from_yields_List (λ b. eqb b 0) _ _ c.all.result c.all.ensures.ran (YieldsList-from_slice c.args.bytes.now cc) (λ x b q k. search (rules, tests))
+    ∙ all_zero_is c.args.bytes.now
