@@ -1,11 +1,10 @@
 -- The test for a packet decides exactly whether bytes are one. Assumes nothing.
-use Rattle.std.proofs.Common.{◌≡◌, ℕ, ◌-◌, ◌^◌, ◌≤◌, length, Bool, true, false, cond, List, Ok, Err, Result, sym, refl, ap, ◌∙◌, arith}
+use Rattle.std.proofs.Common.{◌≡◌, ℕ, ◌≤◌, length, true, false, cond, List, Ok, Err, Result, sym, ap, ◌∙◌, arith}
 use Rattle.std.proofs.lemmas.Bool.Decides.{nat_tests}
 use Rattle.protocol.specs.declared.refusals.Refusal.{Refusal}
 use Rattle.protocol.specs.declared.refusals.Refusal.TheVariants.{BadPacket}
 use Rattle.packet.specs.declared.reading.Packet.{Packet}
-use Rattle.protocol.specs.Limits.{packet_limit}
-use Rattle.packet.specs.Packets.{IsPacket, is_packet, packet_in, source_in, destination_in, version_in, header_in, total_in, header_sum}
+use Rattle.packet.specs.Packets.{IsPacket, is_packet, packet_in, source_in, destination_in}
 
 pub test_passes : (bs : List ℕ) → IsPacket bs → is_packet bs ≡ true
 unfolding is_packet
@@ -23,23 +22,24 @@ test_is bs passed =
       right = grind (arith, nat_tests);
     }
 
--- what is a packet is taken, with its addresses
-pub taken : (bs : List ℕ) (s d : ℕ) → IsPacket bs → s ≡ source_in bs → d ≡ destination_in bs → Ok (record { source = s; destination = d }) ≡ packet_in bs
-unfolding packet_in
-taken bs s d is from to =
-    let addresses : Packet = record { source = source_in bs; destination = destination_in bs } in
-    (λ i. Ok (record { source = from i; destination = to i })) ∙ sym (ap (λ t. cond {A = Result Packet Refusal} t (Ok addresses) (Err BadPacket)) (test_passes bs is))
+-- what is a packet has a whole header, and is taken with its addresses
+pub long_enough : (bs : List ℕ) → is_packet bs ≡ true → 20 ≤ length bs
+long_enough bs passed = let is = test_is bs passed in omega (arith, is.long, is.inside)
 
--- the same, with what a packet is written out
-pub taken_by : (bs : List ℕ) (s d : ℕ) → version_in bs ≡ 4 → 20 ≤ header_in bs → header_in bs ≤ length bs → total_in bs ≡ length bs → length bs ≤ packet_limit → header_sum bs ≡ 2 ^ 16 - 1 → s ≡ source_in bs → d ≡ destination_in bs → Ok (record { source = s; destination = d }) ≡ packet_in bs
-taken_by bs s d version long inside whole small right from to =
-    taken bs s d (record { version = version; long = long; inside = inside; whole = whole; small = small; right = right }) from to
+pub taken : (bs : List ℕ) (s d : ℕ) → is_packet bs ≡ true → s ≡ source_in bs → d ≡ destination_in bs → Ok (record { source = s; destination = d }) ≡ packet_in bs
+unfolding packet_in
+taken bs s d passed from to =
+    let addresses : Packet = record { source = source_in bs; destination = destination_in bs } in
+    (λ i. Ok (record { source = from i; destination = to i })) ∙ sym (ap (λ t. cond {A = Result Packet Refusal} t (Ok addresses) (Err BadPacket)) passed)
 
 -- what is no packet is refused
-pub refused : (bs : List ℕ) → (IsPacket bs → ⊥) → packet_in bs ≡ Err BadPacket
-unfolding packet_in
-refused bs none = by_test (is_packet bs) refl
+pub is_none : (bs : List ℕ) → is_packet bs ≡ false → IsPacket bs → ⊥
+is_none bs failed is = clash (sym (test_passes bs is) ∙ failed)
   where
-    by_test : (t : Bool) → is_packet bs ≡ t → cond {A = Result Packet Refusal} t (Ok (record { source = source_in bs; destination = destination_in bs })) (Err BadPacket) ≡ Err BadPacket
-    by_test true passed = absurd (none (test_is bs passed))
-    by_test false failed = refl
+    clash : true ≡ false → ⊥
+    clash e = let z : ◌≡◌ {A = ℕ} 0 1 = cc in omega arith
+
+pub refused : (bs : List ℕ) → is_packet bs ≡ false → Err BadPacket ≡ packet_in bs
+unfolding packet_in
+refused bs failed =
+    sym (ap (λ t. cond {A = Result Packet Refusal} t (Ok (record { source = source_in bs; destination = destination_in bs })) (Err BadPacket)) failed)

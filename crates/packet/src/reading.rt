@@ -1,7 +1,7 @@
 // Reads the header of an IPv4 packet (RFC 791, section 3.1). Assumes nothing.
-ghost use Rattle.std.specs.Prelude.{◌≡◌, ◌+◌, ◌<◌, length, MatchResult};
+ghost use Rattle.std.specs.Prelude.{◌≡◌, ◌+◌, ◌≤◌, length, MatchResult};
 ghost use Rattle.protocol.specs.declared.refusals.Refusal.TheVariants.{BadPacket};
-ghost use Rattle.packet.specs.Packets.{IsPacket, packet_in, source_in, destination_in, number4};
+ghost use Rattle.packet.specs.Packets.{IsPacket, is_packet, packet_in, source_in, destination_in, number4};
 
 use crate::sums::ones_sum;
 use protocol::Refusal;
@@ -28,35 +28,37 @@ pub struct Packet {
 
 // The address at a place of the header.
 fn address(bytes: &[u8], at: usize) -> u32
-    requires { at + 3 < length bytes.now }
+    requires { at + 4 ≤ length bytes.now }
     ensures { result ≡ number4 bytes.now at }
 {
-    u32::from_be_bytes([bytes[at], bytes[at + 1], bytes[at + 2], bytes[at + 3]])
+    u32::from_be_bytes(*bytes[at..].first_chunk().unwrap())
+}
+
+// Whether the bytes are a packet that may pass.
+#[tactic(auto, unfolding(crate::specs::Packets::is_packet))]
+fn is_packet(bytes: &[u8]) -> bool
+    ensures { result ≡ is_packet bytes.now }
+{
+    let [lead, _, high, low, ..] = bytes else {
+        return false;
+    };
+    let header = usize::from(lead % 16) * 4;
+    let total = usize::from(u16::from_be_bytes([*high, *low]));
+    lead / 16 == VERSION
+        && header >= MIN_HEADER
+        && header <= bytes.len()
+        && total == bytes.len()
+        && total <= MAX_PACKET
+        && ones_sum(&bytes[..header]) == ALL_ONES
 }
 
 /// The addresses of the IPv4 packet that the bytes are. Refuses all bytes that aren't one whole
 /// packet of at most 1,280 bytes with a right header sum. It changes nothing.
-#[tactic(auto, using(crate::proofs::Packets::taken_by))]
 pub fn read(bytes: &[u8]) -> Result<Packet, Refusal>
     ensures value { result ≡ packet_in bytes.now }
     ensures packets { MatchResult result (λ p. IsPacket bytes.now × (p.source ≡ source_in bytes.now) × (p.destination ≡ destination_in bytes.now)) (λ e. (e ≡ BadPacket) × (IsPacket bytes.now → ⊥)) }
 {
-    if bytes.len() < MIN_HEADER {
-        #[tactic(auto, using(crate::proofs::Packets::refused))]
-        return Err(Refusal::BadPacket);
-    }
-    let header = usize::from(bytes[0] % 16) * 4;
-    let total = usize::from(u16::from_be_bytes([bytes[2], bytes[3]]));
-    if bytes[0] / 16 != VERSION || header < MIN_HEADER || header > bytes.len() {
-        #[tactic(auto, using(crate::proofs::Packets::refused))]
-        return Err(Refusal::BadPacket);
-    }
-    if total != bytes.len() || total > MAX_PACKET {
-        #[tactic(auto, using(crate::proofs::Packets::refused))]
-        return Err(Refusal::BadPacket);
-    }
-    if ones_sum(&bytes[0..header]) != ALL_ONES {
-        #[tactic(auto, using(crate::proofs::Packets::refused))]
+    if !is_packet(bytes) {
         return Err(Refusal::BadPacket);
     }
     Ok(Packet {

@@ -16,6 +16,7 @@ fn ones_add(x: u16, y: u16) -> u16
 pub fn ones_sum(bytes: &[u8]) -> u16
     ensures { result ≡ ones_sum 0 bytes.now }
 {
+    // By patterns: a chunk of two would need an arm for other lengths.
     let mut sum = 0u16;
     let mut rest = bytes;
     while let [high, low, more @ ..] = rest {
