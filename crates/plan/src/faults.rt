@@ -1,50 +1,42 @@
 // What can be wrong with a line of a plan, in words that its writer understands. Assumes nothing.
 use settings::Fault;
-use std::fmt;
+use std::alloc::AllocError;
+use thiserror::Error;
 
 /// What is wrong with a line of a plan.
-#[derive(Clone, Copy, Debug, Drop)]
+#[derive(Debug, Drop, Error)]
 pub enum TextFault {
     /// It is neither life, nor most, nor a gate.
+    #[error("the line is none of: life TICKS, most PACKETS, NUMBER NAME A.B.C.D/N A.B.C.D")]
     Columns,
     /// What follows life or most is no number that fits.
+    #[error("what follows is no number that fits")]
     NotNumber,
     /// Life or most stands a second time.
+    #[error("it stands a second time, or after a gate")]
     Twice,
     /// A gate stands before life and most.
+    #[error("life and most stand before the first gate")]
     TooEarly,
     /// The gate's number isn't the next one.
+    #[error("the number of this gate is {0}")]
     NotNext(u8),
     /// The name has other characters than letters, digits, - and _.
+    #[error("a name has only letters, digits, - and _")]
     NotName,
     /// A gate before has the same name.
+    #[error("gate {0} has this name too")]
     SameName(usize),
     /// The prefix isn't written A.B.C.D/N.
+    #[error("the prefix is written A.B.C.D/N, N from 0 to 32")]
     NotPrefix,
     /// The address outside isn't written A.B.C.D.
+    #[error("the address outside is written A.B.C.D")]
     NotAddress,
     /// The value isn't allowed in settings.
-    Refused(Fault),
+    #[error(transparent)]
+    Refused(#[from] Fault),
     /// There is no memory.
-    NoMemory,
-}
-
-impl fmt::Display for TextFault {
-    fn fmt<W: fmt::Write>(&self, f: &mut fmt::Formatter<W>) -> fmt::Result {
-        match self {
-            TextFault::Columns => f.write_str(
-                "the line is none of: life TICKS, most PACKETS, NUMBER NAME A.B.C.D/N A.B.C.D",
-            ),
-            TextFault::NotNumber => f.write_str("what follows is no number that fits"),
-            TextFault::Twice => f.write_str("it stands a second time, or after a gate"),
-            TextFault::TooEarly => f.write_str("life and most stand before the first gate"),
-            TextFault::NotNext(next) => write!(f, "the number of this gate is {next}"),
-            TextFault::NotName => f.write_str("a name has only letters, digits, - and _"),
-            TextFault::SameName(gate) => write!(f, "gate {gate} has this name too"),
-            TextFault::NotPrefix => f.write_str("the prefix is written A.B.C.D/N, N from 0 to 32"),
-            TextFault::NotAddress => f.write_str("the address outside is written A.B.C.D"),
-            TextFault::Refused(fault) => write!(f, "{fault}"),
-            TextFault::NoMemory => f.write_str("there is no memory"),
-        }
-    }
+    #[error("there is no memory")]
+    NoMemory(#[from(alloc)] AllocError),
 }

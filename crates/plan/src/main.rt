@@ -9,8 +9,9 @@ mod text;
 
 use anyhow::anyhow;
 use lines::encode;
-use settings::{DRAWN, MakeFault, Plan, Settings, make_all, read};
+use settings::{DRAWN, Plan, Settings, make_all, read};
 use showing::show;
+use std::fmt::Display;
 use std::fs::File;
 use std::io::{Read, Write};
 use std::process::ExitCode;
@@ -18,6 +19,8 @@ use std::{env, fs};
 use text::Draft;
 
 const USE: &str = "use: plan make PLAN FOLDER [DRAWN], plan show SETTINGS, plan check SETTINGS";
+
+const UNREAD: &str = "the plan can't be read";
 
 fn main(rt: HostRuntime) -> anyhow::Result<ExitCode> {
     if let Err(why) = run(&rt) {
@@ -30,17 +33,15 @@ fn main(rt: HostRuntime) -> anyhow::Result<ExitCode> {
 fn run(rt: &HostRuntime) -> anyhow::Result<()> {
     let mut args = env::args(rt)?;
     let _program = args.next();
-    let Some(command) = args.next() else {
+    let (Some(command), Some(path), third, fourth, None) = (
+        args.next(),
+        args.next(),
+        args.next(),
+        args.next(),
+        args.next(),
+    ) else {
         return Err(anyhow!(USE));
     };
-    let Some(path) = args.next() else {
-        return Err(anyhow!(USE));
-    };
-    let third = args.next();
-    let fourth = args.next();
-    if args.next().is_some() {
-        return Err(anyhow!(USE));
-    }
     match (command.as_str(), third, fourth) {
         ("make", Some(folder), drawn) => make(rt, path.as_str(), &folder, drawn),
         ("show", None, None) => show(rt, &read_settings(rt, path.as_str())?),
@@ -49,28 +50,30 @@ fn run(rt: &HostRuntime) -> anyhow::Result<()> {
     }
 }
 
+// Says what is wrong with a file, and ends with a sentence of its own.
+fn refuse<T>(
+    rt: &HostRuntime,
+    path: &str,
+    why: impl Display + Drop,
+    end: &str,
+) -> anyhow::Result<T> {
+    eprintln!(rt; "plan: {path}: {why}")?;
+    Err(anyhow!("{end}"))
+}
+
 // The bytes of a file; one that can't be read is named.
 fn read_file(rt: &HostRuntime, path: &str) -> anyhow::Result<Vec<u8>> {
-    match fs::read(rt, path) {
-        Ok(bytes) => Ok(bytes),
-        Err(why) => {
-            eprintln!(rt; "plan: {path}: {why}")?;
-            Err(anyhow!("the file can't be read"))
-        }
-    }
+    fs::read(rt, path).or_else(|why| refuse(rt, path, why, "the file can't be read"))
 }
 
 // The settings in a file; those that are refused are named with what is wrong.
 fn read_settings(rt: &HostRuntime, path: &str) -> anyhow::Result<Settings> {
     let bytes = read_file(rt, path)?;
-    match read(bytes.as_slice()) {
-        Ok(settings) => Ok(settings),
-        Err(fault) => {
-            let number = fault.refusal().number();
-            eprintln!(rt; "plan: {path}: refused by {number}: {fault}")?;
-            Err(anyhow!("the settings are refused"))
-        }
-    }
+    read(bytes.as_slice()).or_else(|fault| {
+        let number = u8::from(fault.refusal());
+        let why = format_args!("refused by {number}: {fault}");
+        refuse(rt, path, why, "the settings are refused")
+    })
 }
 
 fn check(rt: &HostRuntime, path: &str) -> anyhow::Result<()> {
@@ -83,21 +86,13 @@ fn check(rt: &HostRuntime, path: &str) -> anyhow::Result<()> {
 
 // The plan in a file, line by line; the first line that is wrong is named.
 fn read_plan(rt: &HostRuntime, path: &str) -> anyhow::Result<Draft> {
-    let content = match fs::read_to_string(rt, path) {
-        Ok(content) => content,
-        Err(why) => {
-            eprintln!(rt; "plan: {path}: {why}")?;
-            return Err(anyhow!("the plan can't be read"));
-        }
-    };
+    let content = fs::read_to_string(rt, path).or_else(|why| refuse(rt, path, why, UNREAD))?;
     let mut draft = Draft::new(rt.alloc());
-    let mut number = 0u64;
-    for line in content.as_str().lines() {
-        number = number.saturating_add(1);
-        if let Err(fault) = draft.take_line(rt.alloc(), line) {
-            eprintln!(rt; "plan: {path}: line {number}: {fault}")?;
-            return Err(anyhow!("the plan can't be read"));
-        }
+    for (number, line) in (1..u64::MAX).zip(content.as_str().lines()) {
+        draft.take_line(rt.alloc(), line).or_else(|fault| {
+            let why = format_args!("line {number}: {fault}");
+            refuse(rt, path, why, UNREAD)
+        })?;
     }
     Ok(draft)
 }
@@ -120,14 +115,7 @@ fn make(rt: &HostRuntime, path: &str, folder: &String, from: Option<String>) -> 
         return Err(anyhow!("the plan has no gates"));
     };
     let drawn = draw(rt, &plan, from)?;
-    let all = match make_all(rt.alloc(), plan, drawn.as_slice()) {
-        Ok(all) => all,
-        Err(MakeFault::FewDrawn) => {
-            return Err(anyhow!("there are fewer drawn bytes than 1024 for each gate"));
-        }
-        Err(MakeFault::WrongGates) => return Err(anyhow!("the plan has no gates, or too many")),
-        Err(MakeFault::NoMemory) => return Err(anyhow!("there is no memory")),
-    };
+    let all = make_all(rt.alloc(), plan, drawn.as_slice())?;
     for (settings, name) in all.iter().zip(draft.names.iter()) {
         if folder.as_str() == "-" {
             print_one(rt, name.as_str(), settings)?;

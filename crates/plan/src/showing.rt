@@ -1,18 +1,14 @@
 // A file of settings as text, without its keys. Assumes nothing.
-use settings::{Plan, Range, Settings};
-
-// The four bytes of an address.
-fn dotted(address: u32) -> [u8; 4] {
-    address.to_be_bytes()
-}
+use settings::{Plan, Settings};
+use std::net::Ipv4Addr;
 
 fn show_gate(rt: &impl Print, plan: &Plan, gate: u8) -> anyhow::Result<()> {
-    let range: Range = plan.range(gate);
-    let [a, b, c, d] = dotted(range.first);
-    let [e, f, g, h] = dotted(plan.outside(gate));
+    let range = plan.range(gate);
+    let first = Ipv4Addr::from(range.first);
+    let outside = Ipv4Addr::from(plan.outside(gate));
     match range.prefix_length() {
-        Some(bits) => println!(rt; "gate {gate} {a}.{b}.{c}.{d}/{bits} {e}.{f}.{g}.{h}")?,
-        None => println!(rt; "gate {gate} no prefix {e}.{f}.{g}.{h}")?,
+        Some(bits) => println!(rt; "gate {gate} {first}/{bits} {outside}")?,
+        None => println!(rt; "gate {gate} no prefix {outside}")?,
     }
     Ok(())
 }

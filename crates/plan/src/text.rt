@@ -4,6 +4,7 @@ use crate::faults::TextFault;
 use protocol::limits::{MIN_LIFE, MIN_MOST};
 use settings::Plan;
 use std::alloc::Global;
+use std::str::FromStr;
 
 /// A plan as far as its text was read, with the names of its gates in the order of their numbers.
 #[derive(Drop)]
@@ -16,12 +17,7 @@ pub struct Draft {
 
 // Whether a name can be that of a file: letters, digits, - and _.
 fn is_name(text: &str) -> bool {
-    for byte in text.bytes() {
-        if !byte.is_ascii_alphanumeric() && byte != b'-' && byte != b'_' {
-            return false;
-        }
-    }
-    true
+    text.bytes().all(|byte| byte.is_ascii_alphanumeric() || byte == b'-' || byte == b'_')
 }
 
 impl Draft {
@@ -49,64 +45,53 @@ impl Draft {
         if first.starts_with('#') {
             return Ok(());
         }
-        let Some(second) = words.next() else {
-            return Err(TextFault::Columns);
-        };
-        let third = words.next();
-        let fourth = words.next();
-        if words.next().is_some() {
-            return Err(TextFault::Columns);
-        }
-        match (third, fourth) {
-            (None, None) if first == "life" => self.take_life(second),
-            (None, None) if first == "most" => self.take_most(second),
-            (Some(prefix), Some(outside)) => self.take_gate(heap, first, second, prefix, outside),
+        match (
+            first,
+            words.next(),
+            words.next(),
+            words.next(),
+            words.next(),
+        ) {
+            ("life", Some(life), None, None, None) => self.take_life(life),
+            ("most", Some(most), None, None, None) => self.take_most(most),
+            (number, Some(name), Some(prefix), Some(outside), None) => {
+                self.take_gate(heap, number, name, prefix, outside)
+            }
             _ => Err(TextFault::Columns),
         }
     }
 
-    fn take_life(&mut self, text: &str) -> Result<(), TextFault> {
-        if self.life.is_some() || self.plan.is_some() {
+    // A number that stands once, before the first gate.
+    fn read_once<T: FromStr>(&self, before: bool, text: &str) -> Result<T, TextFault>
+    where
+        T::Err: Drop,
+    {
+        if before || self.plan.is_some() {
             return Err(TextFault::Twice);
         }
-        let Ok(life) = text.parse::<u16>() else {
-            return Err(TextFault::NotNumber);
-        };
-        match Plan::new(life, MIN_MOST) {
-            Ok(_) => self.life = Some(life),
-            Err(fault) => return Err(TextFault::Refused(fault)),
-        }
+        text.parse().ok().ok_or(TextFault::NotNumber)
+    }
+
+    fn take_life(&mut self, text: &str) -> Result<(), TextFault> {
+        let life = self.read_once(self.life.is_some(), text)?;
+        let _allowed = Plan::new(life, MIN_MOST)?;
+        self.life = Some(life);
         Ok(())
     }
 
     fn take_most(&mut self, text: &str) -> Result<(), TextFault> {
-        if self.most.is_some() || self.plan.is_some() {
-            return Err(TextFault::Twice);
-        }
-        let Ok(most) = text.parse::<u32>() else {
-            return Err(TextFault::NotNumber);
-        };
-        match Plan::new(MIN_LIFE, most) {
-            Ok(_) => self.most = Some(most),
-            Err(fault) => return Err(TextFault::Refused(fault)),
-        }
+        let most = self.read_once(self.most.is_some(), text)?;
+        let _allowed = Plan::new(MIN_LIFE, most)?;
+        self.most = Some(most);
         Ok(())
     }
 
     // The plan to which the next gate is added.
     fn begun(&self) -> Result<Plan, TextFault> {
-        if let Some(plan) = self.plan {
-            return Ok(plan);
-        }
-        let Some(life) = self.life else {
-            return Err(TextFault::TooEarly);
-        };
-        let Some(most) = self.most else {
-            return Err(TextFault::TooEarly);
-        };
-        match Plan::new(life, most) {
-            Ok(plan) => Ok(plan),
-            Err(fault) => Err(TextFault::Refused(fault)),
+        match (self.plan, self.life, self.most) {
+            (Some(plan), _, _) => Ok(plan),
+            (None, Some(life), Some(most)) => Ok(Plan::new(life, most)?),
+            _ => Err(TextFault::TooEarly),
         }
     }
 
@@ -115,14 +100,9 @@ impl Draft {
         if !is_name(text) {
             return Err(TextFault::NotName);
         }
-        for (gate, name) in self.names.iter().enumerate() {
-            if name.as_str() == text {
-                return Err(TextFault::SameName(gate));
-            }
-        }
-        match String::from_str(heap, text) {
-            Ok(name) => Ok(name),
-            Err(_) => Err(TextFault::NoMemory),
+        match self.names.iter().position(|name| name.as_str() == text) {
+            Some(gate) => Err(TextFault::SameName(gate)),
+            None => Ok(String::from_str(heap, text)?),
         }
     }
 
@@ -136,26 +116,14 @@ impl Draft {
     ) -> Result<(), TextFault> {
         let plan = self.begun()?;
         let next = plan.gates();
-        let Ok(number) = number.parse::<u8>() else {
-            return Err(TextFault::NotNext(next));
-        };
-        if number != next {
+        if number.parse().ok() != Some(next) {
             return Err(TextFault::NotNext(next));
         }
         let name = self.new_name(heap, name)?;
-        let Some(range) = parse_prefix(prefix) else {
-            return Err(TextFault::NotPrefix);
-        };
-        let Some(outside) = parse_address(outside) else {
-            return Err(TextFault::NotAddress);
-        };
-        let plan = match plan.add(range, outside) {
-            Ok(plan) => plan,
-            Err(fault) => return Err(TextFault::Refused(fault)),
-        };
-        if self.names.push(name).is_err() {
-            return Err(TextFault::NoMemory);
-        }
+        let range = parse_prefix(prefix).ok_or(TextFault::NotPrefix)?;
+        let outside = parse_address(outside).ok_or(TextFault::NotAddress)?;
+        let plan = plan.add(range, outside)?;
+        self.names.push(name)?;
         self.plan = Some(plan);
         Ok(())
     }
