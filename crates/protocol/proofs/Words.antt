@@ -1,11 +1,11 @@
 -- The laws of the kind of a word: it is this kind exactly if the bytes are a word of this kind, and refused
 -- exactly if they are a word of none. Assumes nothing.
-use Rattle.std.proofs.Common.{◌≡◌, ℕ, ◌<◌, true, false, List, length, get_or, Ok, Err, sym, arith}
+use Rattle.std.proofs.Common.{◌≡◌, ℕ, List, get_or, Ok, Err, sym, arith}
 use Rattle.std.proofs.lemmas.Bool.Decides.{nat_tests}
 use Rattle.protocol.specs.declared.kinds.Kind.{Kind}
 use Rattle.protocol.specs.declared.kinds.Kind.TheVariants.{Hello, Reply, Packet, Empty}
 use Rattle.protocol.specs.declared.refusals.Refusal.TheVariants.{UnknownWord}
-use Rattle.protocol.specs.Kinds.{kind_byte, length_fits, IsWord, kind_of}
+use Rattle.protocol.specs.Kinds.{kind_byte, IsWord, kind_of}
 
 -- a word of a kind has that kind
 pub kind_is : (k : Kind) (w : List ℕ) → IsWord k w → kind_of w ≡ Ok k
@@ -34,41 +34,10 @@ none-refused w no' k is =
     let clash : ◌≡◌ {A = ℕ} 0 1 = cc (kind_is k w is) in
     omega arith
 
--- no bytes at all are refused
-pub none-empty : (w : List ℕ) → length w ≡ 0 → kind_of w ≡ Err UnknownWord
-unfolding kind_of
-none-empty w empty = grind (arith, nat_tests)
-
 -- a word of a kind begins with its byte
 pub first_byte : (k : Kind) (w : List ℕ) → IsWord k w → kind_byte k ≡ get_or w 0 0
 first_byte k w is = grind (arith, nat_tests)
 
--- a word whose length doesn't fit the kind of its byte is refused
-pub wrong_length : (k : Kind) (w : List ℕ) → kind_byte k ≡ get_or w 0 0 → length_fits k (length w) ≡ false → kind_of w ≡ Err UnknownWord
-unfolding kind_of
-wrong_length Hello w byte wrong = grind (arith, nat_tests)
-wrong_length Reply w byte wrong = grind (arith, nat_tests)
-wrong_length Packet w byte wrong = grind (arith, nat_tests)
-wrong_length Empty w byte wrong = grind (arith, nat_tests)
-
--- the byte of a kind and a length that fits it make a word
-pub word_made : (k : Kind) (w : List ℕ) → kind_byte k ≡ get_or w 0 0 → length_fits k (length w) ≡ true → IsWord k w
-word_made k w byte fits = grind (arith, nat_tests)
-
 -- THE SAME, as the code finds it out: where no kind has the first byte, the bytes are refused
 pub no_kind : (w : List ℕ) → ((k : Kind) → kind_byte k ≡ get_or w 0 0 → ⊥) → Err UnknownWord ≡ kind_of w
 no_kind w none = sym (kind_none w (λ k is. none k (first_byte k w is)))
-
--- where there is none, too
-pub no_byte : (w : List ℕ) → length w < 1 → Err UnknownWord ≡ kind_of w
-no_byte w empty = sym (none-empty w (omega arith))
-
--- where the length doesn't fit the kind with that byte, too
-pub no_length : (k : Kind) (w : List ℕ) → kind_byte k ≡ get_or w 0 0 → false ≡ length_fits k (length w) → Err UnknownWord ≡ kind_of w
-no_length k w byte wrong = sym (wrong_length k w byte (sym wrong))
-
--- where it fits, the bytes have that kind
-pub this_kind : (k : Kind) (w : List ℕ) → kind_byte k ≡ get_or w 0 0 → true ≡ length_fits k (length w) → Ok k ≡ kind_of w
-this_kind k w byte fits = sym (kind_is k w (word_made k w byte (sym fits)))
-
-pub ruleset finding = (no_kind, no_byte, no_length, this_kind)

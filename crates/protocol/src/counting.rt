@@ -11,7 +11,7 @@ fn place(refusal: Refusal) -> usize
     ensures value { result ≡ refusal_number refusal - 1 }
     ensures within { result < 15 }
 {
-    usize::from(refusal.number() - 1)
+    usize::from(u8::from(refusal) - 1)
 }
 
 /// A count for each refusal. A count that has reached the largest number stays there.

@@ -1,8 +1,8 @@
 // The four kinds of words, their bytes and their lengths. Assumes nothing.
-ghost use Rattle.std.specs.Prelude.{◌≡◌, MatchOption, MatchResult, ◌≢◌};
+ghost use Rattle.std.specs.Prelude.{◌≡◌, MatchResult};
 ghost use Rattle.protocol.specs.declared.kinds.Kind.{Kind as Sort};
 ghost use Rattle.protocol.specs.declared.refusals.Refusal.TheVariants.{UnknownWord};
-ghost use Rattle.protocol.specs.Kinds.{kind_byte, length_fits, kind_of, IsWord, HasByte, IsKindOf};
+ghost use Rattle.protocol.specs.Kinds.{length_fits, kind_of, IsWord, HasByte, IsKindOf};
 
 use crate::limits::{HANDSHAKE, SEALED};
 use crate::refusals::Refusal;
@@ -21,20 +21,6 @@ pub enum Kind {
 }
 
 impl Kind {
-    /// The byte with which words of this kind begin. It changes nothing and never refuses.
-    pub fn byte(self) -> u8
-        ensures { result ≡ kind_byte self }
-    {
-        u8::from(self)
-    }
-
-    /// The kind with this byte, or none where no kind has it.
-    pub fn of_byte(byte: u8) -> Option<Kind>
-        ensures { MatchOption result ((k : Sort) → kind_byte k ≢ byte) (λ k. kind_byte k ≡ byte) }
-    {
-        Kind::try_from(byte).ok()
-    }
-
     /// Whether a word of this kind can have this length. It changes nothing and never refuses.
     pub fn has_length(self, length: usize) -> bool
         ensures { result ≡ length_fits self length }
@@ -75,7 +61,7 @@ impl TryFrom<u8> for Kind {
 
 /// The kind of the word with these bytes, by its first byte and its length. Refuses all other
 /// bytes, none at all too, as an unknown word. It changes nothing.
-#[tactic(auto, using(crate::proofs::Words::finding))]
+#[tactic(auto, using(crate::proofs::Words::no_kind), unfolding(crate::specs::Kinds::kind_of))]
 pub fn kind_of(word: &[u8]) -> Result<Kind, Refusal>
     ensures value { result ≡ kind_of word.now }
     ensures kinds { MatchResult result (λ k. IsWord k word.now) (λ e. (e ≡ UnknownWord) × ((k : Sort) → IsWord k word.now → ⊥)) }
