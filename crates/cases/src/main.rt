@@ -26,13 +26,17 @@ fn run(rt: &HostRuntime) -> anyhow::Result<()> {
         pair: Pair::new(),
         differing: 0,
     };
-    show.case(rt, "A", &table::case_a())?;
-    show.case(rt, "B", &table::case_b())?;
-    show.case(rt, "C", &table::case_c())?;
-    show.case(rt, "D", &table::case_d())?;
-    show.case(rt, "E", &table::case_e())?;
-    show.case(rt, "F", &table::case_f())?;
-    show.case(rt, "G", &table::case_g())?;
+    for (name, rows) in [
+        ("A", table::case_a().as_slice()),
+        ("B", table::case_b().as_slice()),
+        ("C", table::case_c().as_slice()),
+        ("D", table::case_d().as_slice()),
+        ("E", table::case_e().as_slice()),
+        ("F", table::case_f().as_slice()),
+        ("G", table::case_g().as_slice()),
+    ] {
+        show.case(rt, name, rows)?;
+    }
     show.ring(rt)?;
     if show.differing > 0 {
         return Err(anyhow!("some rows differ"));

@@ -1,6 +1,8 @@
 // Playing rows on the code of two gates, through its public calls alone. Assumes nothing.
 ghost use Rattle.std.specs.Prelude.{◌≡◌};
-ghost use Rattle.cases.specs.Play.{says_word, says_took, says_put, says, leaves, own_of, other_of, tags_of, sure_of, after, happened};
+ghost use Rattle.std.specs.Result.{MatchResult};
+ghost use Rattle.cases.specs.declared.rows.Said.TheVariants.{Refused};
+ghost use Rattle.cases.specs.Play.{says_word, says_taken, says, leaves, own_of, other_of, tags_of, sure_of, after, happened};
 ghost use Rattle.cases.specs.Cases.{at_seven, start};
 
 use crate::rows::{Event, Pair, Row, Said, Side};
@@ -20,28 +22,27 @@ impl From<Option<Word>> for Said {
     }
 }
 
-/// What became of a word that was brought.
-impl From<Result<Taken, Refusal>> for Said {
-    ghost from_gives = { λ answer said. said ≡ says_took answer };
+/// What became of a word that was taken.
+impl From<Taken> for Said {
+    ghost from_gives = { λ taken said. said ≡ says_taken taken };
 
-    fn from(answer: Result<Taken, Refusal>) -> Said {
-        match answer {
-            Ok(Taken::Answer(word)) => Said::Sends(word),
-            Ok(Taken::Sure) => Said::Sure,
-            Ok(Taken::Out) => Said::Out,
-            Ok(Taken::Alive) => Said::Alive,
-            Err(refusal) => Said::Refused(refusal),
+    fn from(taken: Taken) -> Said {
+        match taken {
+            Taken::Answer(word) => Said::Sends(word),
+            Taken::Sure => Said::Sure,
+            Taken::Out => Said::Out,
+            Taken::Alive => Said::Alive,
         }
     }
 }
 
-/// What became of a packet that was put in.
-impl From<Result<Option<Word>, Refusal>> for Said {
-    ghost from_gives = { λ answer said. said ≡ says_put answer };
+/// What a call answers: the answer's own words, or the refusal.
+impl<T: Into<Said>> From<Result<T, Refusal>> for Said {
+    ghost from_gives = { λ answer said. MatchResult answer (λ x. T.Into.converts x said) (λ refusal. said ≡ Refused refusal) };
 
-    fn from(answer: Result<Option<Word>, Refusal>) -> Said {
+    fn from(answer: Result<T, Refusal>) -> Said {
         match answer {
-            Ok(word) => Said::from(word),
+            Ok(answer) => answer.into(),
             Err(refusal) => Said::Refused(refusal),
         }
     }

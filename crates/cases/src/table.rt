@@ -14,49 +14,34 @@ pub fn cases_hold()
     ensures { Cases }
 {}
 
-/// The first hello.
-const HELLO: Word = Word::Hello {
-    by: 0,
-    to: 1,
-    tag: 5,
-    at: 7,
-};
+/// A hello of gate 0's.
+fn hello(tag: u64, at: u64) -> Word
+    ensures { result ≡ Word.Hello 0 1 tag at }
+{
+    Word::Hello {
+        by: 0,
+        to: 1,
+        tag,
+        at,
+    }
+}
 
-/// Its reply.
-const REPLY: Word = Word::Reply {
-    by: 1,
-    to: 0,
-    tag: 9,
-    answers: 5,
-};
+/// A reply of gate 1's.
+fn reply(tag: u64, answers: u64) -> Word
+    ensures { result ≡ Word.Reply 1 0 tag answers }
+{
+    Word::Reply {
+        by: 1,
+        to: 0,
+        tag,
+        answers,
+    }
+}
 
-/// A hello that was said a tick before, and held back.
-const HELD_BACK: Word = Word::Hello {
-    by: 0,
-    to: 1,
-    tag: 4,
-    at: 6,
-};
-
-/// The hello after the restart.
-const NEXT_HELLO: Word = Word::Hello {
-    by: 0,
-    to: 1,
-    tag: 6,
-    at: 8,
-};
-
-/// Its reply.
-const NEXT_REPLY: Word = Word::Reply {
-    by: 1,
-    to: 0,
-    tag: 10,
-    answers: 6,
-};
-
-/// The talk that the first hello makes, as gate 0 has it; and the one of the hello after the restart.
+/// The talk that the first hello makes, as gate 0 has it.
 const FIRST: Tags = Tags { mine: 5, theirs: 9 };
 
+/// The talk that the hello after the restart makes, as gate 0 has it.
 pub const NEXT: Tags = Tags {
     mine: 6,
     theirs: 10,
@@ -106,7 +91,7 @@ fn greeting(tag: u64) -> Event
 const GIVEN: Event = Event::Put(OWN);
 
 /// A hello is brought, with a tag drawn for its reply.
-fn hello(word: Word, drawn: u64) -> Event
+fn brought_with(word: Word, drawn: u64) -> Event
     ensures { result ≡ Event.Take word (Some drawn) }
 {
     let drawn = Some(drawn);
@@ -144,9 +129,9 @@ pub fn case_a() -> [Row; 3]
     ensures { result ≡ rows_of case_a }
 {
     [
-        row(Zero, greeting(5), Sends(HELLO), None),
-        row(One, hello(HELLO, 9), Sends(REPLY), None),
-        row(Zero, brought(REPLY), Sure, tags(5, 9)),
+        row(Zero, greeting(5), Sends(hello(5, 7)), None),
+        row(One, brought_with(hello(5, 7), 9), Sends(reply(9, 5)), None),
+        row(Zero, brought(reply(9, 5)), Sure, tags(5, 9)),
     ]
 }
 
@@ -155,8 +140,8 @@ pub fn case_b() -> [Row; 2]
     ensures { result ≡ rows_of case_b }
 {
     [
-        row(One, hello(HELLO, 11), Refused(OldHello), None),
-        row(One, hello(HELD_BACK, 11), Refused(OldHello), None),
+        row(One, brought_with(hello(5, 7), 11), Refused(OldHello), None),
+        row(One, brought_with(hello(4, 6), 11), Refused(OldHello), None),
     ]
 }
 
@@ -201,11 +186,16 @@ pub fn case_e() -> [Row; 10]
         row(One, brought(packet(FIRST, 1)), Refused(NoTalk), None),
         row(Zero, GIVEN, Sends(packet(FIRST, 2)), tags(5, 9)),
         row(One, brought(packet(FIRST, 2)), Refused(NoTalk), None),
-        row(One, hello(HELLO, 11), Refused(OldHello), None),
+        row(One, brought_with(hello(5, 7), 11), Refused(OldHello), None),
         row(Zero, Event::Tick, Nothing, tags(5, 9)),
-        row(Zero, greeting(6), Sends(NEXT_HELLO), tags(5, 9)),
-        row(One, hello(NEXT_HELLO, 10), Sends(NEXT_REPLY), None),
-        row(Zero, brought(NEXT_REPLY), Sure, tags(6, 10)),
+        row(Zero, greeting(6), Sends(hello(6, 8)), tags(5, 9)),
+        row(
+            One,
+            brought_with(hello(6, 8), 10),
+            Sends(reply(10, 6)),
+            None,
+        ),
+        row(Zero, brought(reply(10, 6)), Sure, tags(6, 10)),
         row(One, brought(packet(FIRST, 2)), Refused(NoTalk), None),
     ]
 }

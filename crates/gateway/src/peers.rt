@@ -41,6 +41,7 @@ impl Peer {
     }
 
     /// The talk that these two tags name.
+    // One chain, as in `for_sending`, with a test of its own: a function that takes the test is no shorter to call.
     pub(crate) fn talk_named(self, tags: Tags) -> Option<Talk>
         ensures { result ≡ talk_named tags.mine tags.theirs self }
     {
@@ -93,6 +94,7 @@ impl Peer {
     }
 
     /// Whether a hello with this tag waits and can still be answered.
+    // One chain, as in `is_greeted`, with a test of its own: a function that takes the test is no shorter to call.
     pub(crate) fn is_asked(self, now: u64, tag: u64) -> bool
         ensures { result ≡ is_asked now tag self }
     {

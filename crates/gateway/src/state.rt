@@ -61,7 +61,7 @@ pub struct Peer {
 pub struct Gateway {
     /// This gate's number.
     pub(crate) own: u8,
-    /// How many gates there are.
+    /// How many gates there are: a count beside the array `peers`, as a gate's memory is fixed and has no heap.
     pub(crate) gates: u8,
     pub(crate) terms: Terms,
     /// The clock.

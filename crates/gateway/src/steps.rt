@@ -1,6 +1,7 @@
 // A gate's calls: each answers, and leaves the memory, just as its contract says; refusals come in the order of their numbers. Assumes nothing.
 ghost use Rattle.std.specs.Prelude.{◌≡◌, ◌<◌};
 ghost use Rattle.std.specs.Option.{unwrap_or};
+ghost use Rattle.protocol.specs.declared.limits.TheConstants.{MAX_GATES};
 ghost use Rattle.gateway.specs.Steps.{fresh, is_peer, is_goal, maker, storing, answer, leaves, peer_at, hello_fault, hello_peer, reply_fault, reply_peer, packet_talk, taken, heard_after, took, took_after, put, put_after, greet, greet_after, ticked, restarted, found_talk};
 ghost use Rattle.gateway.specs.Peers.{stored};
 ghost use Rattle.gateway.specs.Talks.{heard_one};
@@ -46,7 +47,7 @@ impl Gateway {
 
     /// Keeps another memory of a gate that is there.
     fn store(&mut self, gate: u8, peer: Peer)
-        requires { gate < 32 }
+        requires { gate < MAX_GATES }
         ensures { self.new ≡ storing gate peer self.old }
     {
         self.peers[usize::from(gate)] = peer;
@@ -71,10 +72,7 @@ impl Gateway {
         if at <= peer.last_hello {
             return Err(Refusal::OldHello);
         }
-        let mine = match drawn {
-            None | Some(0) => return Err(Refusal::NoDrawnBytes),
-            Some(mine) => mine,
-        };
+        let mine = drawn.filter(|tag| *tag != 0).ok_or(Refusal::NoDrawnBytes)?;
         let met = peer.met(Talk::new(Tags { mine, theirs: tag }, self.now, false));
         self.store(
             by,
@@ -120,12 +118,10 @@ impl Gateway {
         if place.tags.has_zero() {
             return Err(Refusal::ZeroTag);
         }
-        let Some(talk) = peer.talk_named(place.tags.swapped()) else {
-            return Err(Refusal::NoTalk);
-        };
-        if !talk.lives(self.now, self.terms.life) {
-            return Err(Refusal::NoTalk);
-        }
+        let talk = peer
+            .talk_named(place.tags.swapped())
+            .filter(|talk| talk.lives(self.now, self.terms.life))
+            .ok_or(Refusal::NoTalk)?;
         match talk.window.look(place.number) {
             Verdict::Fresh => Ok(talk),
             Verdict::TooOld => Err(Refusal::BelowWindow),
@@ -135,7 +131,7 @@ impl Gateway {
 
     /// Notes that a number came in a talk.
     fn hear(&mut self, place: InTalk, talk: Talk)
-        requires { place.by < 32 }
+        requires { place.by < MAX_GATES }
         ensures { self.new ≡ storing place.by (stored (heard_one place.number talk) (peer_at place.by self.old)) self.old }
     {
         let peer = self.peers[usize::from(place.by)];
@@ -165,8 +161,9 @@ impl Gateway {
         Ok(Taken::Alive)
     }
 
-    /// A word is brought from outside; `drawn` is a tag drawn for the reply, should it be a hello, where 0 is no tag. Answers what becomes of it, or the first
-    /// cause to refuse it, which changes nothing.
+    /// A word is brought from outside; `drawn` is a tag drawn for the reply, should it be a hello. Answers what becomes of it, or the first cause to refuse it,
+    /// which changes nothing.
+    // A drawn tag of 0 is refused as it is in any word: a tag on the wire is any number of 64 bits, and 0 names no talk. A type without 0 asks more of callers.
     pub fn take(&mut self, word: Word, drawn: Option<u64>) -> Result<Taken, Refusal>
         ensures answer { result ≡ took word (unwrap_or drawn 0) self.old }
         ensures after { self.new ≡ took_after word (unwrap_or drawn 0) self.old }
@@ -213,6 +210,7 @@ impl Gateway {
 
     /// Makes a hello to a gate under a drawn tag; none where that gate is not another one, the tag is 0, the tick is not above that of the last restart, or
     /// a hello to it of this tick waits for its reply, and then nothing is changed.
+    // A tag of 0 makes no hello, as in `take`: a type without 0 asks more of callers.
     pub fn greet(&mut self, gate: u8, tag: u64) -> Option<Word>
         ensures answer { result ≡ greet gate tag self.old }
         ensures after { self.new ≡ greet_after gate tag self.old }
