@@ -114,6 +114,13 @@ owns e (Some g) = g == e
 abbrev pub packet_talk : (by to by_tag to_tag number : ℕ) → (source goal : Option ℕ) → Gateway → Result Talk Refusal
 packet_talk by to m h n source goal s = if_owned (owns by source && owns s.own goal) (found_talk by to m h n s)
 
+-- The talk in which a word at a place comes, or its first fault: of any word, and of a packet with these owners.
+abbrev pub found : InTalk → Gateway → Result Talk Refusal
+found p s = found_talk p.by p.to p.tags.mine p.tags.theirs p.number s
+
+abbrev pub found_for : Owners → InTalk → Gateway → Result Talk Refusal
+found_for o p s = packet_talk p.by p.to p.tags.mine p.tags.theirs p.number o.source o.goal s
+
 -- the answer to a word whose talk was found; or the refusal
 abbrev pub taken : Taken → Result Talk Refusal → Result Taken Refusal
 taken x (Ok t) = Ok x
@@ -123,6 +130,9 @@ taken x (Err f) = Err f
 abbrev pub heard_after : (by number : ℕ) → Gateway → Result Talk Refusal → Gateway
 heard_after by n s (Ok t) = storing by (stored (heard_one n t) (peer_at by s)) s
 heard_after by n s (Err f) = s
+
+abbrev pub heard : InTalk → Gateway → Result Talk Refusal → Gateway
+heard p s x = heard_after p.by p.number s x
 
 -- Where a word of a talk stands; and the owners of a packet's addresses.
 abbrev pub in_talk : (by to by_tag to_tag number : ℕ) → InTalk
@@ -135,8 +145,8 @@ between source goal = record { source = source; goal = goal }
 abbrev pub took : Word → (drawn : ℕ) → Gateway → Result Taken Refusal
 took (Hello by to tag at') drawn s = answer (hello_fault by to tag at' drawn s) (Answer (Reply s.own by drawn tag))
 took (Reply by to tag answers) drawn s = answer (reply_fault by to tag answers s) Sure
-took (Packet p o) drawn s = taken Out (packet_talk p.by p.to p.tags.mine p.tags.theirs p.number o.source o.goal s)
-took (Empty p) drawn s = taken Alive (found_talk p.by p.to p.tags.mine p.tags.theirs p.number s)
+took (Packet p o) drawn s = taken Out (found_for o p s)
+took (Empty p) drawn s = taken Alive (found p s)
 
 -- WHAT IT LEAVES IN MEMORY.
 abbrev pub took_after : Word → (drawn : ℕ) → Gateway → Gateway
@@ -144,8 +154,8 @@ took_after (Hello by to tag at') drawn s =
     leaves (hello_fault by to tag at' drawn s) s (storing by (hello_peer tag at' drawn s.now (peer_at by s)) s)
 took_after (Reply by to tag answers) drawn s =
     leaves (reply_fault by to tag answers s) s (storing by (reply_peer tag answers s.now (peer_at by s)) s)
-took_after (Packet p o) drawn s = heard_after p.by p.number s (packet_talk p.by p.to p.tags.mine p.tags.theirs p.number o.source o.goal s)
-took_after (Empty p) drawn s = heard_after p.by p.number s (found_talk p.by p.to p.tags.mine p.tags.theirs p.number s)
+took_after (Packet p o) drawn s = heard p s (found_for o p s)
+took_after (Empty p) drawn s = heard p s (found p s)
 
 -- The owner of a destination, if there is one, is another gate that is there.
 abbrev pub is_goal : Option ℕ → Gateway → Bool

@@ -2,7 +2,7 @@
 ghost use Rattle.std.specs.Prelude.{◌≡◌, ◌<◌};
 ghost use Rattle.std.specs.Option.{unwrap_or};
 ghost use Rattle.protocol.specs.declared.limits.TheConstants.{MAX_GATES};
-ghost use Rattle.gateway.specs.Steps.{fresh, is_peer, is_goal, maker, storing, answer, leaves, peer_at, hello_fault, hello_peer, reply_fault, reply_peer, packet_talk, taken, heard_after, took, took_after, put, put_after, greet, greet_after, ticked, restarted, found_talk};
+ghost use Rattle.gateway.specs.Steps.{fresh, is_peer, is_goal, maker, storing, answer, leaves, peer_at, hello_fault, hello_peer, reply_fault, reply_peer, found, found_for, taken, heard, took, took_after, put, put_after, greet, greet_after, ticked, restarted};
 ghost use Rattle.gateway.specs.Peers.{stored};
 ghost use Rattle.gateway.specs.Talks.{heard_one};
 ghost use Rattle.gateway.specs.declared.state.Taken.TheVariants.{Answer, Sure, Out, Alive};
@@ -112,7 +112,7 @@ impl Gateway {
 
     /// The talk in which a number comes, or why it does not.
     fn found_talk(&self, place: InTalk) -> Result<Talk, Refusal>
-        ensures { result ≡ found_talk place.by place.to place.tags.mine place.tags.theirs place.number self.entry.now }
+        ensures { result ≡ found place self.entry.now }
     {
         let peer = self.maker(place.by, place.to)?;
         if place.tags.has_zero() {
@@ -140,8 +140,8 @@ impl Gateway {
 
     /// A packet of a talk is brought, with the owners of its addresses.
     fn take_packet(&mut self, place: InTalk, owners: Owners) -> Result<Taken, Refusal>
-        ensures answer { result ≡ taken Out (packet_talk place.by place.to place.tags.mine place.tags.theirs place.number owners.source owners.goal self.old) }
-        ensures after { self.new ≡ heard_after place.by place.number self.old (packet_talk place.by place.to place.tags.mine place.tags.theirs place.number owners.source owners.goal self.old) }
+        ensures answer { result ≡ taken Out (found_for owners place self.old) }
+        ensures after { self.new ≡ heard place self.old (found_for owners place self.old) }
     {
         let talk = self.found_talk(place)?;
         if owners.source != Some(place.by) || owners.goal != Some(self.own) {
@@ -153,8 +153,8 @@ impl Gateway {
 
     /// A keepalive of a talk is brought.
     fn take_empty(&mut self, place: InTalk) -> Result<Taken, Refusal>
-        ensures answer { result ≡ taken Alive (found_talk place.by place.to place.tags.mine place.tags.theirs place.number self.old) }
-        ensures after { self.new ≡ heard_after place.by place.number self.old (found_talk place.by place.to place.tags.mine place.tags.theirs place.number self.old) }
+        ensures answer { result ≡ taken Alive (found place self.old) }
+        ensures after { self.new ≡ heard place self.old (found place self.old) }
     {
         let talk = self.found_talk(place)?;
         self.hear(place, talk);
