@@ -32,6 +32,7 @@ pub fn ones_sum(bytes: &[u8]) -> u16
 /// States what a right sum is: that of all 16-bit numbers, the sum field among them, is all ones
 /// exactly where the field is what RFC 791 has the sender write, or all ones in place of 0. It
 /// does nothing.
+#[tactic(auto, using(crate::proofs::Adding::right_sum))]
 pub fn right_sum_stated()
     ensures { RightSum }
 {}

@@ -8,14 +8,11 @@ use Rattle.settings.specs.declared.plans.Plan.{Plan}
 use Rattle.settings.specs.declared.plans.Settings.{Settings}
 use Rattle.settings.specs.Fields.{part}
 use Rattle.settings.specs.Plans.{blank_key, empty_settings, key_at}
-use Rattle.settings.specs.Making.{pair_place, drawn_needed, key_for, keys_for, settings_for, all_settings, settings_at, Agree, AllRead, PairsApart}
+use Rattle.settings.specs.Making.{pair_place, drawn_needed, key_for, keys_for, settings_for, all_settings, settings_at, Agree, AllRead}
 use Rattle.settings.specs.Reading.{settings_read, all_zero}
 use Rattle.settings.specs.Sound.{filled, SoundPlan, Sound}
 use Rattle.settings.specs.Writing.{bytes_of}
 use Rattle.settings.proofs.Written.{reads_back}
-
-pub pairs-apart : PairsApart
-pairs-apart a b c d ab small cd small' same = (grind (arith, nat_tests), grind (arith, nat_tests))
 
 -- a pair's place is the same from both ends, and within the drawn bytes
 place_same : (a b : ℕ) → a ≢ b → pair_place a b ≡ pair_place b a

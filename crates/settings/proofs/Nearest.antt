@@ -8,7 +8,7 @@ use Rattle.std.specs.Option.{option_map}
 use Rattle.settings.specs.declared.ranges.Range.{Range}
 use Rattle.settings.specs.Owners.{Table, Owns, Nobodys}
 use Rattle.settings.specs.Ranges.{range_at, holds, span, IsPrefix, nobody, owner_below, as_gate}
-use Rattle.settings.proofs.Owning.{one_block, owner-longest, owner_unique}
+use Rattle.settings.proofs.Owning.{one_block, owner_longest, owner_unique}
 
 -- what passes a test is kept
 kept : (t : ℕ → Bool) (xs : List ℕ) (k : ℕ) → k < length xs → t (get_or xs k 0) ≡ true → (j : ℕ) × (j < length (filter t xs)) × (get_or (filter t xs) j 0 ≡ get_or xs k 0)
@@ -79,7 +79,7 @@ module _ (rs : List Range) (a n : ℕ) (t : Table rs n) where
 
   -- so it is the owner, and where no range holds the address nobody is
   owner_of : (m : ℕ) → Owns rs n a m → Some m ≡ as_gate (owner_below rs a n)
-  owner_of m own = by (owner-longest rs n t a)
+  owner_of m own = by (owner_longest rs n t a)
     where
       by : ((owner_below rs a n ≡ nobody) × Nobodys rs n a) ⊎ Owns rs n a (owner_below rs a n) → Some m ≡ as_gate (owner_below rs a n)
       by (inl none) = absurd (clash (sym own.held ∙ none.1 m own.is))
@@ -89,7 +89,7 @@ module _ (rs : List Range) (a n : ℕ) (t : Table rs n) where
           gate ∙ ap as_gate (owner_unique rs n a m (owner_below rs a n) own it)
 
   none_of : Nobodys rs n a → None ≡ as_gate (owner_below rs a n)
-  none_of none = by (owner-longest rs n t a)
+  none_of none = by (owner_longest rs n t a)
     where
       by : ((owner_below rs a n ≡ nobody) × Nobodys rs n a) ⊎ Owns rs n a (owner_below rs a n) → None ≡ as_gate (owner_below rs a n)
       by (inl nobodys) = ap as_gate (sym nobodys.0)

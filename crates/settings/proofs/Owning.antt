@@ -112,8 +112,8 @@ module _ (rs : List Range) (a : ℕ) where
   all (suc n) gates t le =
       step n (owner_below rs a n) (omega (arith, t.few)) (λ i less. t.prefixes i (omega arith)) (λ i less. t.apart i n less (omega arith)) (all n gates t (omega arith))
 
-pub owner-longest : OwnerIsLongest
-owner-longest rs gates t a = all rs a gates gates t (omega arith)
+pub owner_longest : OwnerIsLongest
+owner_longest rs gates t a = all rs a gates gates t (omega arith)
 
 pub owner_unique : OwnerIsUnique
 owner_unique rs gates address a b p q = by (eqb_tells a b)

@@ -7,10 +7,10 @@ use Rattle.settings.specs.Plans.{owner_in}
 use Rattle.settings.specs.Ranges.{nobody}
 use Rattle.settings.specs.Runs.{rules_of, RunsAreOwned}
 use Rattle.settings.specs.Sound.{SoundPlan}
-use Rattle.settings.proofs.Owning.{owner-longest}
+use Rattle.settings.proofs.Owning.{owner_longest}
 
 owns : (p : Plan) → SoundPlan p → (address gate : ℕ) → owner_in p address ≡ gate → gate < p.gates → Owns p.ranges p.gates address gate
-owns p sound address gate is below = go (owner-longest p.ranges p.gates sound.table address)
+owns p sound address gate is below = go (owner_longest p.ranges p.gates sound.table address)
   where
     go : ((owner_in p address ≡ nobody) × Nobodys p.ranges p.gates address) ⊎ Owns p.ranges p.gates address (owner_in p address) →
         Owns p.ranges p.gates address gate

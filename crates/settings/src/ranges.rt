@@ -54,6 +54,7 @@ impl Range {
 
 /// States that the owner of an address is the gate with the longest prefix that holds it, that
 /// nobody owns what no prefix holds, and that no two gates own one address. It does nothing.
+#[tactic(auto, using(crate::proofs::Owning::owner_longest, crate::proofs::Owning::owner_unique))]
 pub fn owner_stated()
     ensures longest { OwnerIsLongest }
     ensures unique { OwnerIsUnique }

@@ -117,7 +117,7 @@ impl<'a> Reader<'a> {
     }
 
     // The settings read so far with the entry of one gate more, or its first fault.
-    #[tactic(auto, unfolding(crate::specs::Reading::entry_read))]
+    #[tactic(auto, using(crate::proofs::Taken::range_free), unfolding(crate::specs::Reading::entry_read))]
     fn entry(self, gate: u8, settings: Settings) -> Result<Settings, Fault>
         requires { settings.plan.gates < 32 }
         ensures value { result ≡ entry_read self.entry.bytes.now gate settings }

@@ -30,6 +30,7 @@ impl Settings {
     }
 
     /// The bytes of the settings. Refuses where there is no memory. It changes nothing.
+    #[tactic(auto, unfolding(crate::specs::Writing::bytes_of))]
     pub fn write(&self, heap: Global) -> Result<Vec<u8>, AllocError>
         ensures { IfOk result (λ v. v.items ≡ bytes_of self.now) }
     {
@@ -44,6 +45,7 @@ impl Settings {
 
 /// States that reading what was written gives it back, for all settings that are allowed. It does
 /// nothing.
+#[tactic(auto, using(crate::proofs::Written::reads_back))]
 pub fn reads_back_stated()
     ensures { ReadsBack }
 {}
