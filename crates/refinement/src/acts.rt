@@ -35,7 +35,7 @@ impl Letter {
         ensures { result ≡ opened owners.now self }
     {
         match self.word {
-            // A packet's letter carries one, so no default is taken: plainer than a second enum of words in which only a packet has it.
+            // A packet's letter that is made here carries one: plainer than a second enum of words in which only a packet has it. Any other is read with addresses 0.
             Word::Packet { place, .. } => Word::Packet {
                 place,
                 owners: self.parcel.unwrap_or_default().owners(owners),

@@ -39,6 +39,7 @@ impl Sea {
         })
     }
 
+    // Three lists are lent, each by one line: no plainer as one function that is told which.
     /// All words that were made, the earliest first.
     pub fn words(&self) -> &[Letter]
         ensures { result.now ≡ self.now.net.items }

@@ -4,7 +4,8 @@
 
 use gateway::{Terms, Word};
 use refinement::EventKind::{self, Bring, Greet, Put, Restart, Tick};
-use refinement::{Event, Letter, Parcel, Sea};
+use refinement::{Event, Parcel, Sea};
+use std::fmt;
 
 /// Gate k owns the addresses from 10 * k to 10 * k + 9; the rest is nobody's.
 const OWNERS: [u8; 30] = [
@@ -48,12 +49,12 @@ impl Line {
     }
 }
 
-/// The word at a place of the net is brought, with a tag drawn for a reply, if one was.
+/// The word at a place of the net is brought, with a tag drawn for a reply, if one was: a line in the table, where a struct takes four.
 fn brought(place: usize, tag: Option<u64>) -> EventKind {
     Bring { place, tag }
 }
 
-/// The whole story.
+/// The whole story. A function, since a constant's value calls none.
 fn story() -> [Line; 22] {
     [
         Line::new("a tick passes at gate 0", 0, Tick),
@@ -105,14 +106,18 @@ fn story() -> [Line; 22] {
     ]
 }
 
-// A function and no Display: letters are another crate's, and a wrapper round one for these words is no plainer.
-/// A letter of the net in words.
-fn name(letter: Letter) -> &'static str {
-    match letter.word {
-        Word::Hello { .. } => "a hello",
-        Word::Reply { .. } => "a reply",
-        Word::Packet { .. } => "a packet",
-        Word::Empty { .. } => "a keepalive",
+/// A word of the net, named by its kind.
+#[derive(Clone, Copy)]
+struct Named(Word);
+
+impl fmt::Display for Named {
+    fn fmt<W: fmt::Write>(&self, f: &mut fmt::Formatter<W>) -> fmt::Result {
+        f.write_str(match self.0 {
+            Word::Hello { .. } => "a hello",
+            Word::Reply { .. } => "a reply",
+            Word::Packet { .. } => "a packet",
+            Word::Empty { .. } => "a keepalive",
+        })
     }
 }
 
@@ -124,7 +129,7 @@ fn play(rt: &HostRuntime, sea: &mut Sea, line: Line) -> anyhow::Result<()> {
     let says = line.says;
     rt.print(says)?;
     if let Some(letter) = sea.words().get(words) {
-        let sent = name(*letter);
+        let sent = Named(letter.word);
         print!(rt; ": {sent} goes out as word {words}")?;
     }
     let parcel = sea.came_out().get(came).and_then(|letter| letter.parcel);
