@@ -1,3 +1,4 @@
+mod Iterates
 mod Lists
 mod States
 mod Words

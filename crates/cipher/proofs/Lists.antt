@@ -1,9 +1,9 @@
 -- A function of two lists that is written over the first of them, place by place, and words that are written as bytes.
-use Rattle.std.proofs.Common.{◌≡◌, ℕ, zero, suc, ◌+◌, ◌<◌, ◌≤◌, min, List, [], ◌∷◌, ◌++◌, length, get_or, take, drop, set, sym, refl, ap, ◌∙◌, ap₂, ⊎_elim, append_assoc, le_of_suc-le-suc, not-suc-le-zero, arith, length-append}
+use Rattle.std.proofs.Common.{◌≡◌, ℕ, zero, suc, ◌<◌, ◌≤◌, min, List, [], ◌∷◌, ◌++◌, length, get_or, take, drop, set, sym, refl, ap, ◌∙◌, ⊎_elim, le_of_suc-le-suc, not-suc-le-zero, arith}
 use lib.Lanes.{zip2}
 use borrow.Rule.Slice.PartMut.{put_mid}
 use Rattle.std.proofs.lemmas.Bool.{cases_lt}
-use Rattle.std.proofs.lemmas.List.{append-nil, take_at, drop_at, drop-drop, take_all, drop_all, length-take-le}
+use Rattle.std.proofs.lemmas.List.{take_at, drop_at, take_all, drop_all}
 
 -- f of the first i places of xs and ys, and the rest of xs
 abbrev pub over : {A B : Type 0} → (A → B → A) → List A → List B → ℕ → List A
@@ -30,36 +30,6 @@ put_next i k front rest part long =
     let a : take i (front ++ rest) ≡ front = take_at front rest i long in
     let b : drop i (front ++ rest) ≡ rest = drop_at front rest i long in
     rw (a, b) refl
-
--- two parts that are written one after the other
-pub put-put : {A : Type 0} (i k l : ℕ) (xs p q : List A) → length p ≡ k → i ≤ length xs → put_mid (i + k) l (put_mid i k xs p) q ≡ put_mid i (k + l) xs (p ++ q)
-put-put i k l xs p q hp hi =
-    let front : length (take i xs ++ p) ≡ i + k = length-append (take i xs) p ∙ ap₂ (λ m n. m + n) (length-take-le i xs hi) hp in
-    ap (λ r. put_mid (i + k) l r q) (sym (append_assoc (take i xs) p (drop k (drop i xs))))
-    ∙ put_next (i + k) l (take i xs ++ p) (drop k (drop i xs)) q front
-    ∙ ap (λ r. (take i xs ++ p) ++ (q ++ r)) (drop-drop l k (drop i xs))
-    ∙ append_assoc (take i xs) p (q ++ drop (k + l) (drop i xs))
-    ∙ ap (λ r. take i xs ++ r) (sym (append_assoc p q (drop (k + l) (drop i xs))))
-
--- a part that is all of the list
-pub put_whole : {A : Type 0} (n : ℕ) (xs p : List A) → length xs ≤ n → put_mid 0 n xs p ≡ p
-put_whole n xs p h = ap (λ r. p ++ r) (drop_all n xs h) ∙ append-nil p
-
--- five parts of 64 places each that are written one after the other over all of a list
-pub put_five : {A : Type 0} (xs p q r s t : List A) → length xs ≡ 320 → length p ≡ 64 → length q ≡ 64 → length r ≡ 64 → length s ≡ 64
-    → put_mid 256 64 (put_mid 192 64 (put_mid 128 64 (put_mid 64 64 (put_mid 0 64 xs p) q) r) s) t ≡ p ++ (q ++ (r ++ (s ++ t)))
-put_five xs p q r s t h hp hq hr hs =
-    let pq : length (p ++ q) ≡ 128 = length-append p q ∙ ap₂ (λ m k. m + k) hp hq in
-    let pqr : length ((p ++ q) ++ r) ≡ 192 = length-append (p ++ q) r ∙ ap₂ (λ m k. m + k) pq hr in
-    let pqrs : length (((p ++ q) ++ r) ++ s) ≡ 256 = length-append ((p ++ q) ++ r) s ∙ ap₂ (λ m k. m + k) pqr hs in
-    let e2 = put-put 0 64 64 xs p q hp (omega arith) in
-    let e3 = put-put 0 128 64 xs (p ++ q) r pq (omega arith) in
-    let e4 = put-put 0 192 64 xs ((p ++ q) ++ r) s pqr (omega arith) in
-    let e5 = put-put 0 256 64 xs (((p ++ q) ++ r) ++ s) t pqrs (omega arith) in
-    let all = put_whole 320 xs ((((p ++ q) ++ r) ++ s) ++ t) (omega arith) in
-    ap (λ l. put_mid 256 64 (put_mid 192 64 (put_mid 128 64 l r) s) t) e2 ∙ ap (λ l. put_mid 256 64 (put_mid 192 64 l s) t) e3
-    ∙ ap (λ l. put_mid 256 64 l t) e4 ∙ e5 ∙ all
-    ∙ append_assoc ((p ++ q) ++ r) s t ∙ append_assoc (p ++ q) r (s ++ t) ∙ append_assoc p q (r ++ (s ++ t))
 
 -- two lists that are joined, place by place with two others
 pub zip2-append : {A B C : Type 0} (f : A → B → C) (xs xs' : List A) (ys ys' : List B) → length xs ≡ length ys

@@ -6,6 +6,7 @@ use lib.ListN.{length-map}
 use Rattle.std.proofs.lemmas.Simd.{length-zip2, get_or-zip2, pick_l_left}
 use Rattle.cipher.specs.declared.rows.Rows.{Rows}
 use Rattle.cipher.specs.ChaCha20.{add32, turn_left, add_word, turn_word, line, quarter_round, column_round, diagonal_round, inner_block, inner_blocks, word_bytes, serialized, block_of}
+use Rattle.cipher.specs.Rounds.{quarter, quarter_at}
 use Rattle.cipher.specs.Lanes.{column, of_columns, state_of, row_at, start_rows, line_sum, line_turn, quarter_rows, slant_rows, unslant_rows, lanes_at, by_one, by_two, by_three, inner_rows, sum_rows}
 
 -- rows of n lanes
@@ -47,6 +48,17 @@ sixteen P y =
     first 0 (λ s. P (a ∷ b ∷ c ∷ d ∷ e ∷ f ∷ g ∷ h ∷ i ∷ j ∷ k ∷ l ∷ m ∷ n ∷ o ∷ s)) (λ p.
     none (λ s. P (a ∷ b ∷ c ∷ d ∷ e ∷ f ∷ g ∷ h ∷ i ∷ j ∷ k ∷ l ∷ m ∷ n ∷ o ∷ p ∷ s)) (y a b c d e f g h i j k l m n o p)))))))))))))))))
 
+written : (s : List ℕ) → length s ≡ 16
+    → s
+    ≡ get_or s 0 0 ∷ get_or s 1 0 ∷ get_or s 2 0 ∷ get_or s 3 0 ∷ get_or s 4 0 ∷ get_or s 5 0 ∷ get_or s 6 0 ∷ get_or s 7 0
+    ∷ get_or s 8 0 ∷ get_or s 9 0 ∷ get_or s 10 0 ∷ get_or s 11 0 ∷ get_or s 12 0 ∷ get_or s 13 0 ∷ get_or s 14 0 ∷ get_or s 15 0 ∷ []
+written =
+    sixteen (λ s.
+    s
+    ≡ get_or s 0 0 ∷ get_or s 1 0 ∷ get_or s 2 0 ∷ get_or s 3 0 ∷ get_or s 4 0 ∷ get_or s 5 0 ∷ get_or s 6 0 ∷ get_or s 7 0
+    ∷ get_or s 8 0 ∷ get_or s 9 0 ∷ get_or s 10 0 ∷ get_or s 11 0 ∷ get_or s 12 0 ∷ get_or s 13 0 ∷ get_or s 14 0 ∷ get_or s 15 0 ∷ [])
+    (λ a b c d e f g h i j k l m n o p. refl)
+
 -- a column of the rows after the quarter round on rows is the quarter round of that column
 quarter-at : (n : ℕ) (a b c d : List ℕ) (j : ℕ) → length a ≡ n → length b ≡ n → length c ≡ n → length d ≡ n → j < n
     → column j (quarter_rows (record { a = a; b = b; c = c; d = d })) ≡ quarter_round 0 1 2 3 (column j (record { a = a; b = b; c = c; d = d }))
@@ -67,6 +79,21 @@ columns : (a b c d e f g h i j k l m n o p : ℕ)
     ≡ column_round (a ∷ b ∷ c ∷ d ∷ e ∷ f ∷ g ∷ h ∷ i ∷ j ∷ k ∷ l ∷ m ∷ n ∷ o ∷ p ∷ [])
 unfolding of_columns column_round quarter_round line add_word turn_word
 columns a b c d e f g h i j k l m n o p = refl
+
+-- the quarter rounds, each on the words at four places, are a round
+pub column_quarters : (s : List ℕ) → length s ≡ 16
+    → quarter_at 3 7 11 15 (quarter_at 2 6 10 14 (quarter_at 1 5 9 13 (quarter_at 0 4 8 12 s))) ≡ column_round s
+unfolding column_round quarter_round line add_word turn_word quarter quarter_at
+column_quarters =
+    sixteen (λ s. quarter_at 3 7 11 15 (quarter_at 2 6 10 14 (quarter_at 1 5 9 13 (quarter_at 0 4 8 12 s))) ≡ column_round s)
+    (λ a b c d e f g h i j k l m n o p. refl)
+
+pub diagonal_quarters : (s : List ℕ) → length s ≡ 16
+    → quarter_at 3 4 9 14 (quarter_at 2 7 8 13 (quarter_at 1 6 11 12 (quarter_at 0 5 10 15 s))) ≡ diagonal_round s
+unfolding diagonal_round quarter_round line add_word turn_word quarter quarter_at
+diagonal_quarters =
+    sixteen (λ s. quarter_at 3 4 9 14 (quarter_at 2 7 8 13 (quarter_at 1 6 11 12 (quarter_at 0 5 10 15 s))) ≡ diagonal_round s)
+    (λ a b c d e f g h i j k l m n o p. refl)
 
 column-state : (k : ℕ) (r : Rows) → Wide 16 r → k < 4 → state_of k (quarter_rows r) ≡ column_round (state_of k r)
 unfolding state_of of_columns column
@@ -275,18 +302,14 @@ state-bytes xs h f = let all : quad xs ≡ 64 = quad_is xs ∙ ap (λ n. 4 * n) 
 abbrev fourths : ℕ → List ℕ → List ℕ
 fourths k xs = pick_l 0 xs (k ∷ (4 + k) ∷ (8 + k) ∷ (12 + k) ∷ (16 + k) ∷ (20 + k) ∷ (24 + k) ∷ (28 + k) ∷ [])
 
--- sixteen lanes, written out
-lanes : (xs : List ℕ) → length xs ≡ 16 → xs ≡ set (counted xs 0) 12 (get_or xs 12 0)
-lanes = sixteen (λ xs. xs ≡ set (counted xs 0) 12 (get_or xs 12 0)) (λ a b c d e f g h i j k l m n o p. refl)
-
 -- the states are every fourth lane of the rows
 pub states-apart : (r : Rows) → Wide 16 r → (k : ℕ) → k < 4 → fourths k (r.a ++ r.b) ++ fourths k (r.c ++ r.d) ≡ state_of k r
 unfolding state_of of_columns column
 states-apart r w =
-    let a = lanes r.a w.a in
-    let b = lanes r.b w.b in
-    let c = lanes r.c w.c in
-    let d = lanes r.d w.d in
+    let a = written r.a w.a in
+    let b = written r.b w.b in
+    let c = written r.c w.c in
+    let d = written r.d w.d in
     each_of_four (λ k. fourths k (r.a ++ r.b) ++ fourths k (r.c ++ r.d) ≡ state_of k r)
     (λ i. fourths 0 (a i ++ b i) ++ fourths 0 (c i ++ d i)) (λ i. fourths 1 (a i ++ b i) ++ fourths 1 (c i ++ d i))
     (λ i. fourths 2 (a i ++ b i) ++ fourths 2 (c i ++ d i)) (λ i. fourths 3 (a i ++ b i) ++ fourths 3 (c i ++ d i))

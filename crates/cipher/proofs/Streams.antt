@@ -1,11 +1,12 @@
 -- The key stream: its length, one block more at its end, and a longer one.
-use Rattle.std.proofs.Common.{◌≡◌, ℕ, zero, suc, ◌+◌, ◌-◌, ◌*◌, ◌/◌, ◌%◌, ◌^◌, ◌≤◌, min, List, ◌++◌, length, take, drop, set, sym, refl, ap, ap₂, ◌∙◌, append_assoc, arith, length-append, length-drop, take-add}
+use Rattle.std.proofs.Common.{◌≡◌, ℕ, zero, suc, ◌+◌, ◌-◌, ◌*◌, ◌/◌, ◌%◌, ◌^◌, ◌≤◌, min, List, [], ◌++◌, length, get_or, take, drop, set, sym, refl, ap, ap₂, ◌∙◌, append_assoc, arith, length-append, length-drop, take-add}
 use lib.Bits.{bit_xor}
 use borrow.Rule.Slice.PartMut.{put_mid}
 use lib.Lanes.{zip2}
 use Rattle.std.proofs.lemmas.Simd.{length-zip2}
 use Rattle.std.proofs.lemmas.List.{append-nil, drop_at, drop-drop, length-take-le, take_all, drop_all}
 use Rattle.cipher.specs.ChaCha20.{add32, start_state, inner_blocks, block_of, block, keystream, blocks_for, encrypt}
+use Rattle.cipher.specs.Lanes.{block_after}
 use Rattle.cipher.proofs.Lists.{piece, put_next, zip2-append, zip2_past}
 use Rattle.cipher.proofs.States.{length_inners}
 use Rattle.cipher.proofs.Words.{length-serialized}
@@ -42,39 +43,31 @@ keystream-add key c nonce (suc n) m =
     rw (a, b) (ap (λ r. block key c nonce ++ r) (keystream-add key (c + 1) nonce n m)
     ∙ sym (append_assoc (block key c nonce) (keystream key (c + 1) nonce n) (keystream key (c + 1 + n) nonce m)))
 
-pub keystream-one : (key : List ℕ) (c : ℕ) (nonce : List ℕ) → keystream key c nonce 1 ≡ block key c nonce
+keystream_one : (key : List ℕ) (c : ℕ) (nonce : List ℕ) → keystream key c nonce 1 ≡ block key c nonce
 unfolding keystream
-keystream-one key c nonce = append-nil (block key c nonce)
-
-keystream_five : (key : List ℕ) (c : ℕ) (nonce : List ℕ)
-    → keystream key c nonce 5
-    ≡ block key c nonce
-    ++ (block key (c + 1) nonce ++ (block key (c + 1 + 1) nonce ++ (block key (c + 1 + 1 + 1) nonce ++ block key (c + 1 + 1 + 1 + 1) nonce)))
-unfolding keystream
-keystream_five key c nonce =
-    ap (λ r. block key c nonce ++ (block key (c + 1) nonce ++ (block key (c + 1 + 1) nonce ++ (block key (c + 1 + 1 + 1) nonce ++ r))))
-    (append-nil (block key (c + 1 + 1 + 1 + 1) nonce))
+keystream_one key c nonce = append-nil (block key c nonce)
 
 -- a start state with another counter, which is reduced modulo 2^32
-counter_set : (key : List ℕ) (c : ℕ) (nonce : List ℕ) (n k d : ℕ) → (n + k) % 2 ^ 32 ≡ d % 2 ^ 32
-    → block_of (set (start_state key c nonce) 12 (add32 n k)) ≡ block key d nonce
+counter_set : (key : List ℕ) (c : ℕ) (nonce : List ℕ) (k d : ℕ) → (c % 2 ^ 32 + k) % 2 ^ 32 ≡ d % 2 ^ 32
+    → block_of (set (start_state key c nonce) 12 (add32 (get_or (start_state key c nonce) 12 0) k)) ≡ block key d nonce
 unfolding block add32 start_state
-counter_set key c nonce n k d e = ap (λ m. block_of (set (start_state key c nonce) 12 m)) e
+counter_set key c nonce k d e = ap (λ m. block_of (set (start_state key c nonce) 12 m)) e
 
--- five blocks from a state with the counters d to d + 4, each modulo 2^32
-pub five_blocks : (key : List ℕ) (c : ℕ) (nonce : List ℕ) (d n : ℕ) → n ≡ d % 2 ^ 32
-    → block_of (set (start_state key c nonce) 12 (add32 n 0))
-    ++ (block_of (set (start_state key c nonce) 12 (add32 n 1))
-    ++ (block_of (set (start_state key c nonce) 12 (add32 n 2))
-    ++ (block_of (set (start_state key c nonce) 12 (add32 n 3)) ++ block_of (set (start_state key c nonce) 12 (add32 n 4)))))
-    ≡ keystream key d nonce 5
-five_blocks key c nonce d n e =
-    let e0 = counter_set key c nonce n 0 d (omega arith) in
-    let e1 = counter_set key c nonce n 1 (d + 1) (omega arith) in
-    let e2 = counter_set key c nonce n 2 (d + 1 + 1) (omega arith) in
-    let e3 = counter_set key c nonce n 3 (d + 1 + 1 + 1) (omega arith) in
-    let e4 = counter_set key c nonce n 4 (d + 1 + 1 + 1 + 1) (omega arith) in
-    (λ i. e0 i ++ (e1 i ++ (e2 i ++ (e3 i ++ e4 i)))) ∙ sym (keystream_five key d nonce)
+-- five blocks from a start state on
+pub five_blocks : (key : List ℕ) (c : ℕ) (nonce : List ℕ)
+    → block_after (start_state key c nonce) 0
+    ++ (block_after (start_state key c nonce) 1
+    ++ (block_after (start_state key c nonce) 2
+    ++ (block_after (start_state key c nonce) 3 ++ (block_after (start_state key c nonce) 4 ++ []))))
+    ≡ keystream key c nonce 5
+unfolding keystream
+five_blocks key c nonce =
+    let e0 = counter_set key c nonce 0 c (omega arith) in
+    let e1 = counter_set key c nonce 1 (c + 1) (omega arith) in
+    let e2 = counter_set key c nonce 2 (c + 1 + 1) (omega arith) in
+    let e3 = counter_set key c nonce 3 (c + 1 + 1 + 1) (omega arith) in
+    let e4 = counter_set key c nonce 4 (c + 1 + 1 + 1 + 1) (omega arith) in
+    λ i. e0 i ++ (e1 i ++ (e2 i ++ (e3 i ++ (e4 i ++ []))))
 
 -- a stream that is long enough turns a text
 pub turned_by : (key : List ℕ) (c : ℕ) (nonce text : List ℕ) (n : ℕ) → length text ≤ 64 * n → zip2 bit_xor text (keystream key c nonce n) ≡ encrypt key c nonce text
@@ -86,6 +79,9 @@ turned_by key c nonce text n h =
     ap (λ k. zip2 bit_xor text (keystream key c nonce k)) split
     ∙ ap (zip2 bit_xor text) (keystream-add key c nonce m (n - m))
     ∙ zip2_past bit_xor text (keystream key c nonce m) (keystream key (c + m) nonce (n - m)) (omega arith)
+
+pub turned_block : (key : List ℕ) (c : ℕ) (nonce text : List ℕ) → length text ≤ 64 → zip2 bit_xor text (block key c nonce) ≡ encrypt key c nonce text
+turned_block key c nonce text h = ap (zip2 bit_xor text) (sym (keystream_one key c nonce)) ∙ turned_by key c nonce text 1 (omega arith)
 
 -- a counter counts modulo 2^32
 keystream-mod : (key : List ℕ) (c d : ℕ) (nonce : List ℕ) (n : ℕ) → c % 2 ^ 32 ≡ d % 2 ^ 32 → keystream key c nonce n ≡ keystream key d nonce n

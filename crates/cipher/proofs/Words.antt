@@ -1,10 +1,9 @@
 -- Laws of 32-bit words: the turn that the machine does is the turn of the definition, and words as bytes.
-use Rattle.std.proofs.Common.{◌≡◌, ℕ, zero, suc, ◌+◌, ◌-◌, ◌*◌, ◌/◌, ◌%◌, ◌^◌, ◌<◌, ◌≤◌, List, [], ◌∷◌, ◌++◌, map, length, get_or, take, drop, replicate, sym, refl, ap, ◌∙◌, append_assoc, mod-eq_of_lt, arith}
+use Rattle.std.proofs.Common.{◌≡◌, ℕ, zero, suc, ◌+◌, ◌-◌, ◌*◌, ◌/◌, ◌%◌, ◌^◌, ◌<◌, ◌≤◌, List, [], ◌∷◌, map, length, get_or, replicate, refl, ap, ◌∙◌, mod-eq_of_lt, arith}
 use lib.Bits.{bit_or}
 use lib.Lanes.{zip2}
-use borrow.Rule.Slice.PartMut.{put_mid}
-use Rattle.std.proofs.lemmas.List.{take_more, length-take-le, take_at, drop_at, drop-drop, take_all, drop_all, append-nil}
-use Rattle.cipher.specs.ChaCha20.{turn_left, word_bytes, serialized}
+use Rattle.std.specs.Simd.{first_chunks}
+use Rattle.cipher.specs.ChaCha20.{turn_left, word_at, word_bytes, serialized}
 
 -- `rotate_left` is the turn, for a number of bits above 0 and below 32
 pub turned : (n x : ℕ) → 0 < n → n < 32 → bit_or ((x * 2 ^ (n % 32)) % 2 ^ 32) (x / 2 ^ ((32 - n % 32) % 32)) ≡ turn_left n x
@@ -15,38 +14,10 @@ turned n x pos small =
     let f : (32 - n) % 32 ≡ 32 - n = mod-eq_of_lt less in
     rw (e, f) refl
 
-pub serialized-append : (xs ys : List ℕ) → serialized (xs ++ ys) ≡ serialized xs ++ serialized ys
-unfolding serialized word_bytes
-serialized-append [] ys = refl
-serialized-append (x ∷ xs) ys = ap (λ zs. word_bytes x ++ zs) (serialized-append xs ys)
-
 pub length-serialized : (xs : List ℕ) → length (serialized xs) ≡ 4 * length xs
 unfolding serialized word_bytes
 length-serialized [] = refl
 length-serialized (x ∷ xs) = let more = length-serialized xs in omega arith
-
-serialized_more : (ws : List ℕ) (i : ℕ) → i < length ws → serialized (take (i + 1) ws) ≡ serialized (take i ws) ++ word_bytes (get_or ws i 0)
-unfolding serialized word_bytes
-serialized_more ws i h = rw (take_more ws i 0 h) (serialized-append (take i ws) (get_or ws i 0 ∷ []))
-
--- the i-th word is written as bytes, after those before it
-pub word_written : (ws z : List ℕ) (i : ℕ) → i < length ws → 4 * length ws ≤ length z
-    → put_mid (4 * i) 4 (serialized (take i ws) ++ drop (4 * i) z) (word_bytes (get_or ws i 0)) ≡ serialized (take (i + 1) ws) ++ drop (4 * (i + 1)) z
-word_written ws z i h k =
-    let n : length (serialized (take i ws)) ≡ 4 * i = length-serialized (take i ws) ∙ ap (λ m. 4 * m) (length-take-le i ws (omega arith)) in
-    let front : take (4 * i) (serialized (take i ws) ++ drop (4 * i) z) ≡ serialized (take i ws) = take_at _ _ _ n in
-    let back : drop (4 * i) (serialized (take i ws) ++ drop (4 * i) z) ≡ drop (4 * i) z = drop_at _ _ _ n in
-    let past : drop 4 (drop (4 * i) z) ≡ drop (4 * i + 4) z = drop-drop 4 (4 * i) z in
-    let next : 4 * i + 4 ≡ 4 * (i + 1) = omega arith in
-    let more : serialized (take (i + 1) ws) ≡ serialized (take i ws) ++ word_bytes (get_or ws i 0) = serialized_more ws i h in
-    rw (front, back, past, next, more) (sym (append_assoc (serialized (take i ws)) (word_bytes (get_or ws i 0)) (drop (4 * (i + 1)) z)))
-
--- all words are written
-pub words_written : (ws z : List ℕ) (i : ℕ) → length ws ≤ i → length z ≤ 4 * i → serialized (take i ws) ++ drop (4 * i) z ≡ serialized ws
-words_written ws z i h k =
-    let all : take i ws ≡ ws = take_all i ws h in
-    let none : drop (4 * i) z ≡ [] = drop_all (4 * i) z k in
-    rw (all, none) (append-nil (serialized ws))
 
 -- a turn of each lane by shifts
 pub turned_lanes : (xs : List ℕ) (n k : ℕ) → length xs ≡ k
@@ -55,3 +26,23 @@ unfolding turn_left
 turned_lanes [] n k h = refl
 turned_lanes (x ∷ xs) n zero h = absurd (omega arith)
 turned_lanes (x ∷ xs) n (suc k) h = ap (λ zs. turn_left n x ∷ zs) (turned_lanes xs n k (omega arith))
+
+-- the i-th four bytes, as a word
+chunk-word : (k i : ℕ) (bytes : List ℕ) → i < k → 4 * k ≤ length bytes → word_at (get_or (first_chunks 4 k bytes) i []) 0 ≡ word_at bytes i
+unfolding word_at
+chunk-word zero i bytes h l = absurd (omega arith)
+chunk-word (suc k) i [] h l = absurd (omega arith)
+chunk-word (suc k) i (a ∷ []) h l = absurd (omega arith)
+chunk-word (suc k) i (a ∷ b ∷ []) h l = absurd (omega arith)
+chunk-word (suc k) i (a ∷ b ∷ c ∷ []) h l = absurd (omega arith)
+chunk-word (suc k) zero (a ∷ b ∷ c ∷ d ∷ bytes) h l = refl
+chunk-word (suc k) (suc i) (a ∷ b ∷ c ∷ d ∷ bytes) h l =
+    let e3 : 4 * suc i + 3 ≡ suc (suc (suc (suc (4 * i + 3)))) = omega arith in
+    let e2 : 4 * suc i + 2 ≡ suc (suc (suc (suc (4 * i + 2)))) = omega arith in
+    let e1 : 4 * suc i + 1 ≡ suc (suc (suc (suc (4 * i + 1)))) = omega arith in
+    let e0 : 4 * suc i ≡ suc (suc (suc (suc (4 * i)))) = omega arith in
+    rw (e3, e2, e1, e0) (chunk-word k i bytes (omega arith) (omega arith))
+
+pub chunk_read : (bytes : List ℕ) (chunks : List (List ℕ)) (i w : ℕ) → chunks ≡ first_chunks 4 (length bytes / 4) bytes → 4 * i + 3 < length bytes
+    → w ≡ word_at (get_or chunks i []) 0 → w ≡ word_at bytes i
+chunk_read bytes chunks i w e h r = r ∙ ap (λ c. word_at (get_or c i []) 0) e ∙ chunk-word (length bytes / 4) i bytes (omega arith) (omega arith)

@@ -1,9 +1,9 @@
 -- Four ChaCha20 states in four rows of sixteen lanes, and what the lanes do to them.
 -- Assumes nothing.
-use Rattle.std.specs.Prelude.{ℕ, zero, suc, ◌+◌, List, [], ◌∷◌, ◌++◌, map, bit_xor, slice_index, slice_index_or}
+use Rattle.std.specs.Prelude.{ℕ, zero, suc, ◌+◌, List, [], ◌∷◌, ◌++◌, map, bit_xor, slice_index, slice_index_or, slice_set}
 use Rattle.std.specs.Simd.Lanes.{zip2, pick_l}
 use Rattle.cipher.specs.declared.rows.Rows.{Rows}
-use Rattle.cipher.specs.ChaCha20.{add32, turn_left}
+use Rattle.cipher.specs.ChaCha20.{add32, turn_left, block_of}
 
 -- the j-th lanes of the rows: a column of one of the states
 unfoldable pub column : ℕ → Rows → List ℕ
@@ -95,3 +95,10 @@ inner_rows (suc n) r = unslant_rows (quarter_rows (slant_rows (quarter_rows (inn
 -- the sums of states, row by row
 unfoldable pub sum_rows : Rows → Rows → Rows
 sum_rows r q = record { a = line_sum r.a q.a; b = line_sum r.b q.b; c = line_sum r.c q.c; d = line_sum r.d q.d }
+
+-- a state with its block counter k further on, and the block of that state
+abbrev pub counted : List ℕ → ℕ → List ℕ
+counted s k = slice_set s 12 (add32 (slice_index s 12) k)
+
+abbrev pub block_after : List ℕ → ℕ → List ℕ
+block_after s k = block_of (counted s k)

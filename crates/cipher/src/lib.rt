@@ -1,12 +1,14 @@
 // ChaCha20 (RFC 8439): the block, and turning a text in place, in scalar form and by lanes.
 #![tactic(auto)]
 
+mod blocks;
 mod fault;
 mod lanes;
+mod quarter;
+mod rounds;
 mod rows;
-mod scalar;
 mod texts;
 
+pub use blocks::ChaCha20;
 pub use fault::Fault;
-pub use scalar::block;
-pub use texts::{ChaCha20, Form, Lanes, Scalar, turn, turn_scalar};
+pub use texts::{Form, Lanes, Scalar, turn};

@@ -1,33 +1,27 @@
 // Turning a text in place: each byte xor the byte of the key stream at its place.
 ghost use Rattle.std.specs.Prelude.{◌≡◌, ◌+◌, ◌*◌, ◌/◌, ◌%◌, ◌<◌, ◌≤◌, length, is_ok, if◌then◌else◌, bit_xor};
+ghost use Rattle.std.specs.List.{concat};
 ghost use Rattle.std.specs.Simd.Lanes.{zip2};
 ghost use Rattle.std.proofs.Common.{rules};
-ghost use Rattle.cipher.specs.ChaCha20.{block as Block-of, keystream, encrypt};
+ghost use Rattle.cipher.specs.ChaCha20.{keystream, encrypt};
 ghost use Rattle.cipher.specs.Texts.{answer};
 
+use crate::blocks::ChaCha20;
 use crate::fault::Fault;
 use crate::lanes::five_blocks;
-use crate::scalar::{block_bytes, start_state};
 
 const LONGEST: usize = 65536;
 
 const BLOCK: usize = 64;
 
-/// A key and a nonce: they say what the key stream is.
-#[derive(Clone, Copy)]
-pub struct ChaCha20 {
-    pub key: [u8; 32],
-    pub nonce: [u8; 12],
-}
-
-/// How the key stream is made: N bytes of it at once.
+/// How the key stream is made: N blocks of it at once.
 pub trait Form<const N: usize> {
     /// The key stream from the block with this counter on.
-    fn stream(cipher: &ChaCha20, counter: u32) -> [u8; N]
-        ensures { result ≡ keystream cipher.now.key counter cipher.now.nonce (N / 64) };
+    fn stream(cipher: &ChaCha20, counter: u32) -> [[u8; 64]; N]
+        ensures { concat result ≡ keystream cipher.now.key counter cipher.now.nonce N };
 
-    // The stream is some whole blocks, and no more than the longest text takes.
-    ghost whole_blocks: { (0 < N) × ((N ≤ 65536) × (N % 64 ≡ 0)) };
+    // There are some blocks, and no more than the longest text takes.
+    ghost some_blocks: { (0 < N) × (N ≤ 1024) };
 }
 
 /// One block at a time.
@@ -36,19 +30,21 @@ pub struct Scalar;
 /// Five blocks at a time, four of them by lanes.
 pub struct Lanes;
 
-impl Form<64> for Scalar {
-    ghost whole_blocks = { Prim.search rules };
+impl Form<1> for Scalar {
+    ghost some_blocks = { Prim.search rules };
 
-    fn stream(cipher: &ChaCha20, counter: u32) -> [u8; 64] {
-        cipher.block(counter)
+    #[tactic(auto, unfolding(crate::specs::ChaCha20::keystream))]
+    fn stream(cipher: &ChaCha20, counter: u32) -> [[u8; 64]; 1] {
+        [cipher.block(counter)]
     }
 }
 
-impl Form<320> for Lanes {
-    ghost whole_blocks = { Prim.search rules };
+impl Form<5> for Lanes {
+    ghost some_blocks = { Prim.search rules };
 
-    fn stream(cipher: &ChaCha20, counter: u32) -> [u8; 320] {
-        five_blocks(&start_state(&cipher.key, counter, &cipher.nonce), counter)
+    #[tactic(auto, using(crate::proofs::Streams::five_blocks))]
+    fn stream(cipher: &ChaCha20, counter: u32) -> [[u8; 64]; 5] {
+        five_blocks(&cipher.state(counter))
     }
 }
 
@@ -59,8 +55,8 @@ fn allowed(len: usize, counter: u32) -> Result<(), Fault>
     if len > LONGEST {
         return Err(Fault::TooLong);
     }
-    let blocks = (len as u64 + 63) / 64;
-    if counter as u64 + blocks > 4_294_967_296 {
+    let blocks = len.div_ceil(BLOCK);
+    if u64::from(counter) + blocks as u64 > 1 << 32 {
         return Err(Fault::CounterOver);
     }
     Ok(())
@@ -77,13 +73,6 @@ fn xor_onto(part: &mut [u8], stream: &[u8])
 }
 
 impl ChaCha20 {
-    /// The block with this counter (RFC 8439, 2.3): 64 bytes. It is never refused.
-    pub fn block(&self, counter: u32) -> [u8; 64]
-        ensures { result ≡ Block-of self.now.key counter self.now.nonce }
-    {
-        block_bytes(&start_state(&self.key, counter, &self.nonce))
-    }
-
     /// Turns a text in place: what was plain is encrypted, and what was encrypted is plain (RFC
     /// 8439, 2.4), from a block counter on. A text longer than 65,536 bytes is refused, and so is
     /// one that would run over the 32-bit counter; a refusal leaves the text as it is. Every form
@@ -97,7 +86,11 @@ impl ChaCha20 {
         ensures after { text.new ≡ (if is_ok result then encrypt self.now.key counter self.now.nonce text.old else text.old) }
     {
         allowed(text.len(), counter)?;
-        self.turn_parts::<N, F>(counter, text);
+        if text.len() <= BLOCK {
+            self.turn_block(counter, text);
+        } else {
+            self.turn_parts::<N, F>(counter, text);
+        }
         Ok(())
     }
 
@@ -106,8 +99,8 @@ impl ChaCha20 {
         requires { length text.old ≤ 65536 }
         ensures { text.new ≡ encrypt self.now.key counter self.now.nonce text.old }
     {
-        for from in (0..text.len()).step_by(N) {
-            let to = (from + N).min(text.len());
+        for from in (0..text.len()).step_by(BLOCK * N) {
+            let to = (from + BLOCK * N).min(text.len());
             let at = counter.wrapping_add((from / BLOCK) as u32);
             self.turn_part::<N, F>(at, &mut text[from..to]);
         }
@@ -115,14 +108,23 @@ impl ChaCha20 {
 
     // Turns a part of a text; one that a block is long enough for takes no more.
     fn turn_part<const N: usize, F: Form<N>>(&self, counter: u32, part: &mut [u8])
-        requires { length part.old ≤ N }
+        requires { length part.old ≤ 64 * N }
         ensures { part.new ≡ encrypt self.now.key counter self.now.nonce part.old }
     {
         if part.len() <= BLOCK {
-            xor_onto(part, &self.block(counter));
+            self.turn_block(counter, part);
         } else {
-            xor_onto(part, &F::stream(self, counter));
+            xor_onto(part, F::stream(self, counter).as_flattened());
         }
+    }
+
+    // Turns a text that a block is long enough for.
+    #[tactic(auto, using(crate::proofs::Streams::turned_block))]
+    fn turn_block(&self, counter: u32, text: &mut [u8])
+        requires { length text.old ≤ 64 }
+        ensures { text.new ≡ encrypt self.now.key counter self.now.nonce text.old }
+    {
+        xor_onto(text, &self.block(counter));
     }
 }
 
@@ -136,21 +138,4 @@ pub fn turn(key: &[u8; 32], counter: u32, nonce: &[u8; 12], text: &mut [u8]) -> 
         nonce: *nonce,
     }
     .turn::<_, Lanes>(counter, text)
-}
-
-/// The same as `turn`, in scalar form.
-pub fn turn_scalar(
-    key: &[u8; 32],
-    counter: u32,
-    nonce: &[u8; 12],
-    text: &mut [u8],
-) -> Result<(), Fault>
-    ensures answer { result ≡ answer counter (length text.old) }
-    ensures after { text.new ≡ (if is_ok result then encrypt key.now counter nonce.now text.old else text.old) }
-{
-    ChaCha20 {
-        key: *key,
-        nonce: *nonce,
-    }
-    .turn::<_, Scalar>(counter, text)
 }

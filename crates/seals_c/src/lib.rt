@@ -1,39 +1,46 @@
 // The seals as C functions, for the benchmark under host/bench. A key has 32 bytes and a nonce 12; what is missing is taken as zeros,
-// and what is refused is answered by 1.
+// and what is refused is answered by 1, all else by 0, since C has no `Result`.
 #![tactic(auto)]
 
-use cipher::{turn, turn_scalar};
-use digest::{Key, hmac, sha256};
+use cipher::{ChaCha20, Form, Lanes, Scalar};
+use digest::{Fault, Key, hmac, sha256};
 
-// The first 32 bytes of a slice, with zeros for those that are not there.
-fn key_of(bytes: &[u8]) -> [u8; 32] {
-    let mut key = [0; 32];
-    let n = bytes.len().min(32);
-    key[0..n].copy_from_slice(&bytes[0..n]);
-    key
+// The first N bytes of a slice, with zeros for those that are not there.
+fn padded<const N: usize>(bytes: &[u8]) -> [u8; N] {
+    let mut all = [0; N];
+    let n = bytes.len().min(N);
+    all[..n].copy_from_slice(&bytes[..n]);
+    all
 }
 
-// The first 12 bytes of a slice, with zeros for those that are not there.
-fn nonce_of(bytes: &[u8]) -> [u8; 12] {
-    let mut nonce = [0; 12];
-    let n = bytes.len().min(12);
-    nonce[0..n].copy_from_slice(&bytes[0..n]);
-    nonce
+// Turns a text in place by a form of the cipher.
+fn turned<const N: usize, F: Form<N>>(
+    key: &[u8],
+    counter: u32,
+    nonce: &[u8],
+    text: &mut [u8],
+) -> u32 {
+    let cipher = ChaCha20 {
+        key: padded(key),
+        nonce: padded(nonce),
+    };
+    u32::from(cipher.turn::<N, F>(counter, text).is_err())
 }
 
 // Writes a sum to the caller's memory, as far as there is room.
-fn put_sum(sum: &[u8; 32], out: &mut [u8]) {
+fn answered(sum: Result<[u8; 32], Fault>, out: &mut [u8]) -> u32 {
+    let Ok(sum) = sum else {
+        return 1;
+    };
     let n = out.len().min(32);
-    out[0..n].copy_from_slice(&sum[0..n]);
+    out[..n].copy_from_slice(&sum[..n]);
+    0
 }
 
 /// Turns a text in place with ChaCha20, by lanes.
 #[unsafe(no_mangle)]
 pub extern "C" fn seals_turn(key: &[u8], counter: u32, nonce: &[u8], text: &mut [u8]) -> u32 {
-    match turn(&key_of(key), counter, &nonce_of(nonce), text) {
-        Ok(()) => 0,
-        Err(_) => 1,
-    }
+    turned::<_, Lanes>(key, counter, nonce, text)
 }
 
 /// Turns a text in place with ChaCha20, in scalar form.
@@ -44,51 +51,30 @@ pub extern "C" fn seals_turn_scalar(
     nonce: &[u8],
     text: &mut [u8],
 ) -> u32 {
-    match turn_scalar(&key_of(key), counter, &nonce_of(nonce), text) {
-        Ok(()) => 0,
-        Err(_) => 1,
-    }
+    turned::<_, Scalar>(key, counter, nonce, text)
 }
 
 /// Writes the SHA-256 of a message.
 #[unsafe(no_mangle)]
 pub extern "C" fn seals_sha256(message: &[u8], out: &mut [u8]) -> u32 {
-    match sha256(message) {
-        Ok(sum) => {
-            put_sum(&sum, out);
-            0
-        }
-        Err(_) => 1,
-    }
+    answered(sha256(message), out)
 }
 
 /// Writes the HMAC-SHA-256 of a message.
 #[unsafe(no_mangle)]
 pub extern "C" fn seals_hmac(key: &[u8], message: &[u8], out: &mut [u8]) -> u32 {
-    match hmac(&key_of(key), message) {
-        Ok(sum) => {
-            put_sum(&sum, out);
-            0
-        }
-        Err(_) => 1,
-    }
+    answered(hmac(&padded(key), message), out)
 }
 
 /// Prepares a key for many messages.
 #[unsafe(no_mangle)]
 pub extern "C" fn seals_prepare(key: &[u8], prepared: &mut Key) {
-    *prepared = Key::new(&key_of(key));
+    *prepared = Key::new(&padded(key));
 }
 
 /// Writes the HMAC-SHA-256 of a message under a prepared key.
 #[unsafe(no_mangle)]
 pub extern "C" fn seals_sum(key: &Key, message: &[u8], out: &mut [u8]) -> u32 {
     let mut mac = key.begin();
-    match mac.update(message) {
-        Ok(()) => {
-            put_sum(&mac.finish(), out);
-            0
-        }
-        Err(_) => 1,
-    }
+    answered(mac.update(message).map(|()| mac.finish()), out)
 }

@@ -7,71 +7,64 @@ use digest::{Key, hmac, sha256};
 // A key of at most 32 bytes, with zeros after it.
 fn filled(key: &[u8]) -> [u8; 32] {
     let mut whole = [0; 32];
-    let n = key.len().min(32);
-    whole[0..n].copy_from_slice(&key[0..n]);
+    for (to, from) in whole.iter_mut().zip(key) {
+        *to = *from;
+    }
     whole
 }
 
-// The HMAC of a message, by a key that is prepared, in two parts, and at once; they must be the same.
-fn show_code(
-    rt: &HostRuntime,
-    name: &str,
-    key: &[u8; 32],
-    message: &[u8],
-    len: usize,
-) -> anyhow::Result<()> {
-    let Ok(code) = hmac(key, message) else {
-        return Err(anyhow!("a vector is refused"));
-    };
+// The HMAC of a message at once; by a key that is prepared, in two parts, it must be the same.
+fn code_of(key: &[u8; 32], message: &[u8]) -> anyhow::Result<[u8; 32]> {
+    let code = hmac(key, message).map_err(|_| anyhow!("a vector is refused"))?;
     let mut mac = Key::new(key).begin();
-    let half = message.len() / 2;
-    if mac.update(&message[0..half]).is_err()
-        || mac.update(&message[half..message.len()]).is_err()
-    {
-        return Err(anyhow!("a vector is refused"));
+    let (front, back) = message.split_at(message.len() / 2);
+    for part in [front, back] {
+        mac.update(part)
+            .map_err(|_| anyhow!("a vector is refused"))?;
     }
     if mac.finish() != code {
         return Err(anyhow!("a prepared key gives another code"));
     }
-    show(rt, name, &code[0..len.min(32)])
+    Ok(code)
 }
 
 // The HMAC under a key that is longer than a block.
-fn show_hashed(rt: &HostRuntime, name: &str, key: &[u8], message: &[u8]) -> anyhow::Result<()> {
-    match sha256(key) {
-        Ok(short) => show_code(rt, name, &short, message, 32),
-        Err(_) => Err(anyhow!("a vector is refused")),
-    }
+fn code_hashed(key: &[u8], message: &[u8]) -> anyhow::Result<[u8; 32]> {
+    let short = sha256(key).map_err(|_| anyhow!("a vector is refused"))?;
+    code_of(&short, message)
 }
 
 pub fn run(rt: &HostRuntime) -> anyhow::Result<()> {
-    show_code(rt, "RFC 4231 1", &filled(&[0x0b; 20]), b"Hi There", 32)?;
-    show_code(
+    show(
+        rt,
+        "RFC 4231 1",
+        &code_of(&filled(&[0x0b; 20]), b"Hi There")?,
+    )?;
+    show(
         rt,
         "RFC 4231 2",
-        &filled(b"Jefe"),
-        b"what do ya want for nothing?",
-        32,
+        &code_of(&filled(b"Jefe"), b"what do ya want for nothing?")?,
     )?;
-    show_code(rt, "RFC 4231 3", &filled(&[0xaa; 20]), &[0xdd; 50], 32)?;
+    show(
+        rt,
+        "RFC 4231 3",
+        &code_of(&filled(&[0xaa; 20]), &[0xdd; 50])?,
+    )?;
     let fourth = [
         1, 2, 3, 4, 5, 6, 7, 8, 9, 10, 11, 12, 13, 14, 15, 16, 17, 18, 19, 20, 21, 22, 23, 24, 25,
     ];
-    show_code(rt, "RFC 4231 4", &filled(&fourth), &[0xcd; 50], 32)?;
-    show_code(
-        rt,
-        "RFC 4231 5",
-        &filled(&[0x0c; 20]),
-        b"Test With Truncation",
-        16,
-    )?;
-    show_hashed(
+    show(rt, "RFC 4231 4", &code_of(&filled(&fourth), &[0xcd; 50])?)?;
+    let truncated = code_of(&filled(&[0x0c; 20]), b"Test With Truncation")?;
+    show(rt, "RFC 4231 5", &truncated[..16])?;
+    show(
         rt,
         "RFC 4231 6",
-        &[0xaa; 131],
-        b"Test Using Larger Than Block-Size Key - Hash Key First",
+        &code_hashed(
+            &[0xaa; 131],
+            b"Test Using Larger Than Block-Size Key - Hash Key First",
+        )?,
     )?;
     let last =
         b"This is a test using a larger than block-size key and a larger than block-size data. The key needs to be hashed before being used by the HMAC algorithm.";
-    show_hashed(rt, "RFC 4231 7", &[0xaa; 131], last)
+    show(rt, "RFC 4231 7", &code_hashed(&[0xaa; 131], last)?)
 }

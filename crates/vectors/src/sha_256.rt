@@ -5,19 +5,17 @@ use digest::{Hasher, sha256};
 
 // The SHA-256 of a message.
 fn show_sum(rt: &HostRuntime, name: &str, message: &[u8]) -> anyhow::Result<()> {
-    match sha256(message) {
-        Ok(sum) => show(rt, name, &sum),
-        Err(_) => Err(anyhow!("a vector is refused")),
-    }
+    let sum = sha256(message).map_err(|_| anyhow!("a vector is refused"))?;
+    show(rt, name, &sum)
 }
 
 // The SHA-256 of a part that comes again and again.
 fn show_repeated(rt: &HostRuntime, name: &str, part: &[u8], times: u32) -> anyhow::Result<()> {
     let mut hasher = Hasher::new();
     for _i in 0..times {
-        if hasher.update(part).is_err() {
-            return Err(anyhow!("a vector is refused"));
-        }
+        hasher
+            .update(part)
+            .map_err(|_| anyhow!("a vector is refused"))?;
     }
     show(rt, name, &hasher.finish())
 }
