@@ -27,6 +27,7 @@ impl State for [u32; 16] {
 
     ghost sum = { zip2 add32 };
 
+    // LLVM takes it for too large to inline.
     #[tactic(auto, unfolding(crate::specs::ChaCha20::inner_block))]
     #[inline(always)]
     fn inner(&mut self) {
@@ -34,6 +35,7 @@ impl State for [u32; 16] {
         diagonal_round(self);
     }
 
+    // By index, as `xor_onto`: of what is written through a `zip` of `iter_mut` nothing is known.
     fn plus(self, start: [u32; 16]) -> [u32; 16] {
         let mut sum = self;
         for (i, word) in sum.iter_mut().enumerate() {

@@ -62,7 +62,8 @@ fn allowed(len: usize, counter: u32) -> Result<(), Fault>
     Ok(())
 }
 
-// Each byte of a part xor the byte of the stream at its place.
+// Each byte of a part xor the byte of the stream at its place. The stream is read by index: of what
+// is written through a `zip` of `iter_mut` the check knows nothing.
 fn xor_onto(part: &mut [u8], stream: &[u8])
     requires { length part.old ≤ length stream.now }
     ensures { part.new ≡ zip2 bit_xor part.old stream.now }
@@ -86,6 +87,7 @@ impl ChaCha20 {
         ensures after { text.new ≡ (if is_ok result then encrypt self.now.key counter self.now.nonce text.old else text.old) }
     {
         allowed(text.len(), counter)?;
+        // Nothing is made ready for parts where one block is enough.
         if text.len() <= BLOCK {
             self.turn_block(counter, text);
         } else {
@@ -94,7 +96,8 @@ impl ChaCha20 {
         Ok(())
     }
 
-    // Turns a text from a counter on, as many bytes at a time as the form makes.
+    // Turns a text from a counter on, as many bytes at a time as the form makes. Parts are cut by
+    // their places: of a text that is written through `chunks_mut` the check knows the length alone.
     fn turn_parts<const N: usize, F: Form<N>>(&self, counter: u32, text: &mut [u8])
         requires { length text.old ≤ 65536 }
         ensures { text.new ≡ encrypt self.now.key counter self.now.nonce text.old }
