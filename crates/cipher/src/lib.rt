@@ -11,4 +11,4 @@ mod texts;
 
 pub use blocks::ChaCha20;
 pub use fault::Fault;
-pub use texts::{Form, Lanes, Scalar, turn};
+pub use texts::{Form, Lanes, Scalar};

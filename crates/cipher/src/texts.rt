@@ -130,15 +130,3 @@ impl ChaCha20 {
         xor_onto(text, &self.block(counter));
     }
 }
-
-/// Turns a text in place, by lanes, as `ChaCha20` does.
-pub fn turn(key: &[u8; 32], counter: u32, nonce: &[u8; 12], text: &mut [u8]) -> Result<(), Fault>
-    ensures answer { result ≡ answer counter (length text.old) }
-    ensures after { text.new ≡ (if is_ok result then encrypt key.now counter nonce.now text.old else text.old) }
-{
-    ChaCha20 {
-        key: *key,
-        nonce: *nonce,
-    }
-    .turn::<_, Lanes>(counter, text)
-}
