@@ -1,7 +1,6 @@
 // Four states side by side, by rows: lane 4 w + k of a row is its w-th word in the k-th state.
 ghost use Rattle.std.specs.Prelude.{◌≡◌, slice_index};
-ghost use Rattle.cipher.specs.ChaCha20.{add32};
-ghost use Rattle.cipher.specs.Lanes.{state_of, row_at, start_rows, quarter_rows, slant_rows, unslant_rows, inner_rows, sum_rows};
+ghost use Rattle.cipher.specs.Lanes.{state_of, row_at, start_rows, quarter_rows, slant_rows, unslant_rows, sum_rows};
 
 use crate::quarter::quarter_round;
 use crate::rounds::State;

@@ -1,5 +1,5 @@
 // Turning a text in place: each byte xor the byte of the key stream at its place.
-ghost use Rattle.std.specs.Prelude.{◌≡◌, ◌+◌, ◌*◌, ◌/◌, ◌%◌, ◌<◌, ◌≤◌, length, is_ok, if◌then◌else◌, bit_xor};
+ghost use Rattle.std.specs.Prelude.{◌≡◌, ◌*◌, ◌<◌, ◌≤◌, length, is_ok, if◌then◌else◌, bit_xor};
 ghost use Rattle.std.specs.List.{concat};
 ghost use Rattle.std.specs.Simd.Lanes.{zip2};
 ghost use Rattle.std.proofs.Common.{rules};
