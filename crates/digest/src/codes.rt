@@ -12,7 +12,7 @@ fn padded_key(key: &[u8; 32], pad: u8) -> [u8; 64]
 {
     let mut block = [0; 64];
     block[..32].copy_from_slice(key);
-    // A loop in place takes half the time of the array's `map`.
+    // A loop in place: with the array's `map` the code of a short message takes a third longer.
     for b in block.iter_mut() {
         *b ^= pad;
     }
