@@ -22,6 +22,7 @@ pub fn read_address(text: &[u8]) -> Option<u32>
 {
     let mut parts = text.split(|byte| *byte == b'.');
     let mut address = 0u32;
+    // Four parts, and not as many as there are; the turn has a name, since the end of a loop without one is not found.
     for _turn in 0..4u8 {
         address = address * 256 + read_number(parts.next()?, 255)?;
     }

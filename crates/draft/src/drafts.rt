@@ -17,7 +17,7 @@ use settings::{Plan, Range};
 use std::marker::Model;
 
 /// A plan as far as its text was read, with the names of its gates.
-#[derive(Drop)]
+#[derive(Clone, Drop)]
 pub struct Draft {
     life: Option<u16>,
     most: Option<u32>,

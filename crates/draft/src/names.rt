@@ -8,7 +8,7 @@ use std::fmt;
 
 /// A gate's name: 1 to 32 letters, digits, - and _. The default one, of no bytes, only stands in a
 /// list's places that are free.
-#[derive(Debug, Default, Drop, PartialEq, Eq)]
+#[derive(Clone, Debug, Default, Drop, PartialEq, Eq)]
 pub struct Name {
     bytes: ArrayVec<u8, 32>,
 }
@@ -56,6 +56,7 @@ pub(crate) fn named(names: &[Name], word: &[u8]) -> Option<usize>
     names.iter().position(|name| name.text() == word)
 }
 
+// Byte by byte: the bytes are no `str`, and to make one of them is a step that can fail.
 impl fmt::Display for Name {
     fn fmt<W: fmt::Write>(&self, f: &mut fmt::Formatter<W>) -> fmt::Result {
         for byte in self.text() {

@@ -17,6 +17,7 @@ fn place(refusal: Refusal) -> usize
 /// A count for each refusal. A count that has reached the largest number stays there.
 #[derive(Clone, Copy, Debug)]
 pub struct Counts {
+    // A place for each refusal: fixed memory, no heap.
     counts: [u64; 15],
 }
 

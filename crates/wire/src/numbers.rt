@@ -35,7 +35,7 @@ pub(crate) fn nonce_of(drawn: &[u8; FIELD]) -> [u8; NONCE]
     *drawn.first_chunk().unwrap()
 }
 
-// The nonce of a number in a talk.
+// The nonce of a number in a talk, copied into zeros as two numbers are.
 #[tactic(auto, unfolding(crate::specs::Numbers::bytes8))]
 pub(crate) fn number_nonce(number: u64) -> [u8; NONCE]
     ensures { result ≡ number_nonce number }

@@ -15,7 +15,7 @@ use protocol::Kind;
 use protocol::limits::{CLEAR, FIELD, HANDSHAKE, HANDSHAKE_INSIDE, MAX_PACKET, SEALED, SUM};
 
 impl Side {
-    // All that stands in clear in a word for the other gate.
+    // All that stands in clear in a word for the other gate, each part at its place in the layout.
     fn head_of(&self, kind: Kind, field: &[u8; FIELD]) -> [u8; INSIDE_AT]
         ensures { result ≡ clear kind self.now.own self.now.peer field.now }
     {
