@@ -1,27 +1,43 @@
 -- One turn of adding up, and what the ones' complement sum is of the plain one. Assumes nothing.
-use Rattle.std.proofs.Common.{◌≡◌, ℕ, zero, suc, ◌+◌, ◌-◌, ◌*◌, ◌%◌, ◌<◌, ◌≤◌, cond, eqb, ◌⊎◌, List, [], ◌∷◌, ◌++◌, length, get_or, take, drop, refl, ap, ◌∙◌, ⊎_elim, arith}
+use Rattle.std.proofs.Common.{◌≡◌, ℕ, zero, suc, ◌+◌, ◌-◌, ◌*◌, ◌/◌, ◌%◌, ◌<◌, ◌≤◌, cond, eqb, ◌⊎◌, List, [], ◌∷◌, ◌++◌, length, get_or, drop, refl, ap, ◌∙◌, ⊎_elim, arith}
 use Rattle.std.proofs.lemmas.Bool.Decides.{nat_tests}
 use Rattle.std.specs.List.{AllByRecursion}
-use Rattle.std.proofs.lemmas.List.{take_rest}
+use Rattle.std.specs.Simd.{first_chunks}
 use Rattle.packet.specs.Sums.{ones_add, ones_sum, RightSum, with_field}
 
+length-pairs : (n : ℕ) (xs : List ℕ) → length (first_chunks 2 n xs) ≡ n
+length-pairs zero xs = refl
+length-pairs (suc n) xs = ap suc (length-pairs n (drop 2 xs))
+
+-- a pair that is added stands at the front of what is left
+pair_left : (n i sum : ℕ) (xs : List ℕ) → n * 2 ≤ length xs → i < n
+    → ones_sum (ones_add sum (get_or (get_or (first_chunks 2 n xs) i []) 0 0 * 256 + get_or (get_or (first_chunks 2 n xs) i []) 1 0)) (drop (suc (suc (i * 2))) xs) ≡ ones_sum sum (drop (i * 2) xs)
+pair_left zero i sum xs long i-in = absurd (omega arith)
+pair_left (suc n) i sum [] long i-in = absurd (omega arith)
+pair_left (suc n) i sum (a ∷ []) long i-in = absurd (omega arith)
+pair_left (suc n) zero sum (a ∷ b ∷ xs) long i-in = refl
+pair_left (suc n) (suc i) sum (a ∷ b ∷ xs) long i-in =
+    let next : suc i * 2 ≡ suc (suc (i * 2)) = omega arith in
+    rw next (pair_left n i sum xs (omega arith) (omega arith))
+
 -- a pair of bytes is added, and the rest is left
-pub pair_more : (sum new : ℕ) (rest : List ℕ) → 2 ≤ length rest → new ≡ ones_add sum (get_or rest 0 0 * 256 + get_or rest 1 0) → ones_sum new (take (length rest - 2) (drop 2 rest)) ≡ ones_sum sum rest
-pair_more sum new [] long is = absurd (omega arith)
-pair_more sum new (a ∷ []) long is = absurd (omega arith)
-pair_more sum new (a ∷ b ∷ rest) long is =
-    ap (ones_sum new) (take_rest (a ∷ b ∷ rest) 2) ∙ ap (λ s. ones_sum s rest) is
+pub pair_added : (bytes : List ℕ) (pairs : List (List ℕ)) (i sum new : ℕ) → pairs ≡ first_chunks 2 (length bytes / 2) bytes → i < length pairs → new ≡ ones_add sum (get_or (get_or pairs i []) 0 0 * 256 + get_or (get_or pairs i []) 1 0)
+    → ones_sum sum (drop (i * 2) bytes) ≡ ones_sum 0 bytes → ones_sum new (drop ((i + 1) * 2) bytes) ≡ ones_sum 0 bytes
+pair_added bytes pairs i sum new cut i-in is before =
+    let next : (i + 1) * 2 ≡ suc (suc (i * 2)) = omega arith in
+    let inside : i < length bytes / 2 = omega (arith, ap length cut, length-pairs (length bytes / 2) bytes) in
+    rw (next, is, cut) (pair_left (length bytes / 2) i sum bytes (omega arith) inside ∙ before)
 
 -- a last byte is added as the high one
-pub last_more : (sum new : ℕ) (rest : List ℕ) → length rest ≡ 1 → new ≡ ones_add sum (get_or rest 0 0 * 256 + 0) → new ≡ ones_sum sum rest
-last_more sum new [] one is = absurd (omega arith)
-last_more sum new (a ∷ []) one is = is
-last_more sum new (a ∷ b ∷ rest) one is = absurd (omega arith)
+pub last_added : (sum new : ℕ) (rest : List ℕ) → length rest ≡ 1 → new ≡ ones_add sum (get_or rest 0 0 * 256 + 0) → new ≡ ones_sum sum rest
+last_added sum new [] one is = absurd (omega arith)
+last_added sum new (a ∷ []) one is = is
+last_added sum new (a ∷ b ∷ rest) one is = absurd (omega arith)
 
 -- nothing is left
-pub none_more : (sum : ℕ) (rest : List ℕ) → length rest ≡ 0 → sum ≡ ones_sum sum rest
-none_more sum [] none = refl
-none_more sum (a ∷ rest) none = absurd (omega arith)
+pub none_left : (sum : ℕ) (rest : List ℕ) → length rest ≡ 0 → sum ≡ ones_sum sum rest
+none_left sum [] none = refl
+none_left sum (a ∷ rest) none = absurd (omega arith)
 
 -- the plain sum of the 16-bit numbers
 abbrev plain : List ℕ → ℕ

@@ -12,18 +12,16 @@ fn ones_add(x: u16, y: u16) -> u16
 
 /// The ones' complement sum of the 16-bit numbers that the bytes are, in pairs, the high byte
 /// first; a last byte without another counts as the high one. It changes nothing.
-#[tactic(auto, using(crate::proofs::Adding::pair_more))]
+#[tactic(auto, using(crate::proofs::Adding::pair_added, crate::proofs::Adding::last_added, crate::proofs::Adding::none_left))]
 pub fn ones_sum(bytes: &[u8]) -> u16
     ensures { result ≡ ones_sum 0 bytes.now }
 {
-    // By patterns: a chunk of two would need an arm for other lengths.
+    let (pairs, single) = bytes.as_chunks::<2>();
     let mut sum = 0u16;
-    let mut rest = bytes;
-    while let [high, low, more @ ..] = rest {
+    for [high, low] in pairs {
         sum = ones_add(sum, u16::from_be_bytes([*high, *low]));
-        rest = more;
     }
-    let [last] = rest else {
+    let [last] = single else {
         return sum;
     };
     ones_add(sum, u16::from_be_bytes([*last, 0]))

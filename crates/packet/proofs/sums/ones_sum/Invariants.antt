@@ -1,9 +1,7 @@
-use Rattle.std.proofs.Common.{◌≡◌, length}
+use Rattle.std.proofs.Common.{◌≡◌, ◌*◌, drop}
 use Rattle.packet.specs.Sums.{ones_sum}
 use Rattle.packet.proofs.sums.ones_sum.Given as goal
 
-abbrev pub invariant-loop-rest : goal.invariant-loop-rest
-invariant-loop-rest l = ones_sum l.sum l.rest ≡ ones_sum 0 l.bytes
-
-abbrev pub decreases-loop-rest : goal.decreases-loop-rest
-decreases-loop-rest l = length l.rest
+-- the sum so far, and the pairs from here on, give the sum of all
+abbrev pub invariant-loop-high : goal.invariant-loop-high
+invariant-loop-high l = ones_sum l.sum (drop (l.high-index * 2) l.bytes) ≡ ones_sum 0 l.bytes
