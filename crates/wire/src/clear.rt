@@ -7,7 +7,8 @@ use crate::numbers::numbers_in;
 use crate::state::Header;
 use protocol::{Kind, Refusal, kind_of};
 
-// What the clear bytes of a word of this kind say. Refuses a tag of 0: one arm says it for both kinds of a talk.
+// What the clear bytes of a word of this kind say. Refuses a tag of 0: one arm says it for both
+// kinds of a talk.
 fn fields(clear: &[u8; INSIDE_AT], kind: Kind) -> Result<Header, Refusal>
     ensures { result ≡ fields_in clear.now kind }
 {

@@ -17,15 +17,15 @@ pub(crate) fn numbers_in(both: &[u8; 16]) -> (u64, u64)
     (u64::from_be_bytes(*first), u64::from_be_bytes(*second))
 }
 
-// Two numbers, one after the other. They are copied: no method of arrays joins two.
+// Two numbers, one after the other.
 #[tactic(auto, unfolding(crate::specs::Numbers::bytes8))]
 pub(crate) fn two_numbers(first: u64, second: u64) -> [u8; 16]
     ensures { result ≡ bytes8 first ++ bytes8 second }
 {
-    let mut both = [0; 16];
-    both[..8].copy_from_slice(&first.to_be_bytes());
-    both[8..].copy_from_slice(&second.to_be_bytes());
-    both
+    *[first.to_be_bytes(), second.to_be_bytes()]
+        .as_flattened()
+        .as_array()
+        .unwrap()
 }
 
 // The nonce of a hello or a reply: the first of its drawn bytes.
@@ -35,7 +35,7 @@ pub(crate) fn nonce_of(drawn: &[u8; FIELD]) -> [u8; NONCE]
     *drawn.first_chunk().unwrap()
 }
 
-// The nonce of a number in a talk, copied into zeros as two numbers are.
+// The nonce of a number in a talk. It is copied into zeros: no method puts 4 zeros before 8 bytes.
 #[tactic(auto, unfolding(crate::specs::Numbers::bytes8))]
 pub(crate) fn number_nonce(number: u64) -> [u8; NONCE]
     ensures { result ≡ number_nonce number }

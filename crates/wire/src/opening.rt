@@ -84,7 +84,8 @@ impl TalkKeys {
 }
 
 impl PairKeys {
-    // Opens a hello of the other gate's.
+    // Opens a hello of the other gate's. A reply differs in the test for 0 and in the variant: one
+    // function of both would only take these two as closures.
     #[tactic(auto, using(crate::proofs::Answered::hello))]
     fn open_hello(&self, word: &[u8; HANDSHAKE]) -> Result<Opened, Refusal>
         ensures { (key : List ℕ) → PairHolds self.now key → result ≡ told (hello_under self.now.side.own self.now.side.peer word.now key) }
@@ -108,12 +109,13 @@ impl PairKeys {
         Ok(Opened::Reply { tag, asked })
     }
 
-    /// Opens a word that came from the other gate: a hello or a reply under the pair's key, a packet
-    /// or a keepalive under the keys of the talk that its tag names, if the caller has found one.
-    /// A packet stands deciphered in the lent bytes then, from `INSIDE_AT` up to the sum. Refuses, in
-    /// this order: a hello or a reply for its kind or length, its gates, its sum, a tag of 0; any
-    /// other word for its kind or length, its gates, a tag of 0, no such talk, its sum. A refusal
-    /// leaves the bytes as they were, and so does a word whose inside is longer than any packet.
+    /// Opens a word that came from the other gate: a hello or a reply under the pair's key, a
+    /// packet or a keepalive under the keys of the talk that its tag names, if the caller has found
+    /// one. A packet stands deciphered in the lent bytes then, from `INSIDE_AT` up to the sum.
+    /// Refuses, in this order: a hello or a reply for its kind or length, its gates, its sum, a tag
+    /// of 0; any other word for its kind or length, its gates, a tag of 0, no such talk, its sum. A
+    /// refusal leaves the bytes as they were, and so does a word whose inside is longer than any
+    /// packet.
     pub fn open(&self, talk: Option<TalkKeys>, word: &mut [u8]) -> Result<Opened, Refusal>
         ensures answer { (key : List ℕ) → PairHolds self.now key → TalkOf self.now key talk → result ≡ told (read_word self.now.side.own (one_key self.now.side.peer key) (one_talk talk) word.old) }
         ensures after { (key : List ℕ) → PairHolds self.now key → TalkOf self.now key talk → word.new ≡ left word.old (read_word self.now.side.own (one_key self.now.side.peer key) (one_talk talk) word.old) }

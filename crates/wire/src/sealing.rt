@@ -27,7 +27,8 @@ impl Side {
         head
     }
 
-    // Writes the clear bytes and the inside, turns the inside, and writes the sum.
+    // Writes the clear bytes and the inside, turns the inside, and writes the sum, in memory as
+    // long as the word. `short` is a clause, as at `turn_short`.
     fn seal(&self, head: &[u8; INSIDE_AT], cipher: &ChaCha20, inside: &[u8], out: &mut [u8])
         requires short { length inside.now ≤ 1280 }
         requires room { length out.old ≡ 35 + length inside.now }
@@ -81,7 +82,7 @@ impl PairKeys {
 }
 
 impl TalkKeys {
-    // Writes a word of the talk under this number.
+    // Writes a word of the talk under this number, in memory as long as the word.
     fn seal_numbered(&self, kind: Kind, number: u64, inside: &[u8], out: &mut [u8])
         requires short { length inside.now ≤ 1280 }
         requires room { length out.old ≡ 35 + length inside.now }
@@ -96,8 +97,8 @@ impl TalkKeys {
     }
 
     /// Writes a packet under this number of the talk to the front of the lent memory, and answers
-    /// how long the word is; what is behind it stays. Refuses, and changes nothing, where the packet
-    /// is longer than any that may pass, or the memory has no room.
+    /// how long the word is; what is behind it stays. Refuses, and changes nothing, where the
+    /// packet is longer than any that may pass, or the memory has no room.
     pub fn seal_packet(&self, number: u64, packet: &[u8], out: &mut [u8]) -> Result<usize, Unsealed>
         ensures answer { result ≡ seal_answer (length packet.now) (length out.old) }
         ensures word { (pair : List ℕ) → TalkHolds self.now pair → out.new ≡ sealed_over result (bytes_of pair [] (Packet self.now.side.own self.now.side.peer self.now.mine self.now.theirs number packet.now)) out.old }

@@ -78,7 +78,8 @@ impl Side {
     }
 }
 
-// Turns a text that is no longer than a packet, from counter 0 on.
+// Turns a text that is no longer than a packet, from counter 0 on. The limit stays a clause: as a
+// type it would be two, one of shared slices for `seal` and one of mutable slices.
 pub(crate) fn turn_short(cipher: &ChaCha20, text: &mut [u8])
     requires { length text.old ≤ 1280 }
     ensures { text.new ≡ encrypt cipher.now.key 0 cipher.now.nonce text.old }
