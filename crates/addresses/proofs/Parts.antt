@@ -1,5 +1,5 @@
 -- How an address is read part by part. Assumes nothing.
-use Rattle.std.proofs.Common.{◌≡◌, ℕ, zero, suc, ◌+◌, ◌-◌, ◌*◌, ◌^◌, ◌<◌, ◌≤◌, List, Some, None, Option, sym, ap, ◌∙◌, arith}
+use Rattle.std.proofs.Common.{◌≡◌, ℕ, zero, suc, ◌+◌, ◌-◌, ◌*◌, ◌^◌, ◌<◌, ◌≤◌, List, [], ◌∷◌, get_or, Some, None, Option, refl, sym, ap, ◌∙◌, arith}
 use Rattle.std.proofs.lemmas.Iterator.{YieldsList}
 use Rattle.addresses.specs.Dotted.{bytes_read}
 use Rattle.std.specs.List.{slice_split}
@@ -7,6 +7,17 @@ use Rattle.addresses.specs.Marks.{dot, front, behind}
 use Rattle.addresses.specs.Numbers.{and_then, number_read}
 use Rattle.addresses.proofs.Cutting.{others, pieces_are}
 use Rattle.addresses.proofs.Giving.{had_none, had_some}
+
+-- the limit of each part is that of a byte
+abbrev limit_at : ℕ → ℕ
+limit_at turn = get_or (255 ∷ 255 ∷ 255 ∷ 255 ∷ []) turn 0
+
+pub limit_is : (turn : ℕ) → turn < 4 → limit_at turn ≡ 255
+limit_is zero less = refl
+limit_is (suc zero) less = refl
+limit_is (suc (suc zero)) less = refl
+limit_is (suc (suc (suc zero))) less = refl
+limit_is (suc (suc (suc (suc i)))) less = absurd (omega arith)
 
 module _ (n : ℕ) (t : List ℕ) where
   -- the first part, and then the others
@@ -47,14 +58,14 @@ module _ {S A : Type 0} {steps : S → Option A → S → Type 0} {v : A → Lis
   rest_short more step = ap (bytes_read (suc (3 - turn)) n) (sym (had_none rest.parts rest.yields step)) ∙ read_more more
 
   -- a part that is no byte
-  pub rest_bad : {t : S} {x : A} → turn < 4 → steps s (Some x) t → None ≡ number_read 255 (v x) → None ≡ o
-  rest_bad more step bad =
+  pub rest_bad : {t : S} {x : A} → turn < 4 → steps s (Some x) t → None ≡ number_read (limit_at turn) (v x) → None ≡ o
+  rest_bad {x = x} more step bad =
       let had = had_some rest.parts rest.yields step in
-      ap (λ p. and_then p (λ b. bytes_read (3 - turn) (n * 256 + b) had.0)) bad ∙ ap (bytes_read (suc (3 - turn)) n) (sym had.1) ∙ read_more more
+      ap (λ p. and_then p (λ b. bytes_read (3 - turn) (n * 256 + b) had.0)) (bad ∙ ap (λ l. number_read l (v x)) (limit_is turn more)) ∙ ap (bytes_read (suc (3 - turn)) n) (sym had.1) ∙ read_more more
 
   -- a byte
-  pub rest_more : {t : S} {x : A} {b : ℕ} → turn < 4 → steps s (Some x) t → Some b ≡ number_read 255 (v x) → Rest steps v t (turn + 1) (n * 256 + b) o
-  rest_more {b = b} more step good =
+  pub rest_more : {t : S} {x : A} {b : ℕ} → turn < 4 → steps s (Some x) t → Some b ≡ number_read (limit_at turn) (v x) → Rest steps v t (turn + 1) (n * 256 + b) o
+  rest_more {x = x} {b = b} more step good =
       let had = had_some rest.parts rest.yields step in
       let less : 4 - (turn + 1) ≡ 3 - turn = omega arith in
       record {
@@ -62,7 +73,7 @@ module _ {S A : Type 0} {steps : S → Option A → S → Type 0} {v : A → Lis
         yields = had.2;
         read =
             ap (λ k. bytes_read k (n * 256 + b) had.0) less
-            ∙ ap (λ p. and_then p (λ c. bytes_read (3 - turn) (n * 256 + c) had.0)) good
+            ∙ ap (λ p. and_then p (λ c. bytes_read (3 - turn) (n * 256 + c) had.0)) (good ∙ ap (λ l. number_read l (v x)) (limit_is turn more))
             ∙ ap (bytes_read (suc (3 - turn)) n) (sym had.1)
             ∙ read_more more;
       }

@@ -16,15 +16,15 @@ pub struct Prefix {
 
 /// The address that a text is, written A.B.C.D with four numbers of 0 to 255, or none. It changes
 /// nothing.
-#[tactic(auto, using(crate::proofs::Parts::rest_end, crate::proofs::Parts::rest_over, crate::proofs::Parts::rest_short, crate::proofs::Parts::rest_bad, crate::proofs::Parts::rest_more, crate::proofs::Parts::room, crate::proofs::Parts::room_more))]
+#[tactic(auto, using(crate::proofs::Parts::rest_end, crate::proofs::Parts::rest_over, crate::proofs::Parts::rest_short, crate::proofs::Parts::rest_bad, crate::proofs::Parts::rest_more, crate::proofs::Parts::room, crate::proofs::Parts::room_more, crate::proofs::Parts::limit_is))]
 pub fn read_address(text: &[u8]) -> Option<u32>
     ensures { result ≡ address_read text.now }
 {
     let mut parts = text.split(|byte| *byte == b'.');
     let mut address = 0u32;
-    // Four parts, and not as many as there are; the turn has a name, since the end of a loop without one is not found.
-    for _turn in 0..4u8 {
-        address = address * 256 + read_number(parts.next()?, 255)?;
+    // Four parts, each with the limit of a byte.
+    for limit in [255; 4] {
+        address = address * 256 + read_number(parts.next()?, limit)?;
     }
     match parts.next() {
         None => Some(address),
