@@ -22,10 +22,11 @@ returns-clause-steps c =
     let told = c.trim_ascii_start-line.ensures.value in
     let t : List ℕ = c.trim_ascii_start-line.result.now in
     let some : 0 < length t = grind (arith, nat_tests) in
-    let cut = c.cut.ensures is_ascii_whitespace (λ b r p. search rules) in
+    let front = c.cut.ensures.front is_ascii_whitespace (λ b r p. search rules) in
+    let behind = c.cut.ensures.behind is_ascii_whitespace (λ b r p. search rules) in
     words_skip told.0 c.args.self.now.rest.now told.3 (omega (arith, told.2))
     ∙ ap words_of (sym told.1)
-    ∙ words_next t c.cut.result.0.now c.unwrap_or-self.result.now _ some (shown c.args.self.now.rest.now t told.0 told.1 told.2 some told.4) cut.0 cut.1 (ap (λ (x : Bor (List ℕ)). x.now) c.unwrap_or-self.ensures ∙ rest_is c.cut.result.1 _ refl)
+    ∙ words_next t c.cut.result.0.now c.unwrap_or-self.result.now _ some (shown c.args.self.now.rest.now t told.0 told.1 told.2 some told.4) front behind (ap (λ (x : Bor (List ℕ)). x.now) c.unwrap_or-self.ensures ∙ rest_is c.cut.result.1 _ refl)
 
 pub returns-clause-goes : goal.returns-clause-goes
 returns-clause-goes c =
