@@ -22,7 +22,7 @@ pub enum Event {
     Tick,
     /// It is switched off and on.
     Restart,
-    /// It is to make a hello to a gate under a drawn tag.
+    /// It is to make a hello to a gate under a drawn tag; 0 is no tag, as in any word.
     Greet { gate: u8, tag: u64 },
     /// A packet is put in, by the owners of its addresses.
     Put(Owners),

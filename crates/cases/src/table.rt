@@ -66,7 +66,7 @@ pub fn packet(tags: Tags, number: u64) -> Word
     Word::Packet { place, owners: OWN }
 }
 
-/// The first packet of gate 0's in the next talk, from an address of gate 2's.
+/// The first packet of gate 0's in the next talk, from an address of gate 2's: the only one with other owners.
 const FOREIGN: Word = Word::Packet {
     place: InTalk {
         by: 0,

@@ -43,10 +43,6 @@ keystream-add key c nonce (suc n) m =
     rw (a, b) (ap (λ r. block key c nonce ++ r) (keystream-add key (c + 1) nonce n m)
     ∙ sym (append_assoc (block key c nonce) (keystream key (c + 1) nonce n) (keystream key (c + 1 + n) nonce m)))
 
-keystream_one : (key : List ℕ) (c : ℕ) (nonce : List ℕ) → keystream key c nonce 1 ≡ block key c nonce
-unfolding keystream
-keystream_one key c nonce = append-nil (block key c nonce)
-
 -- a start state with another counter, which is reduced modulo 2^32
 counter_set : (key : List ℕ) (c : ℕ) (nonce : List ℕ) (k d : ℕ) → (c % 2 ^ 32 + k) % 2 ^ 32 ≡ d % 2 ^ 32
     → block_of (set (start_state key c nonce) 12 (add32 (get_or (start_state key c nonce) 12 0) k)) ≡ block key d nonce
@@ -79,9 +75,6 @@ turned_by key c nonce text n h =
     ap (λ k. zip2 bit_xor text (keystream key c nonce k)) split
     ∙ ap (zip2 bit_xor text) (keystream-add key c nonce m (n - m))
     ∙ zip2_past bit_xor text (keystream key c nonce m) (keystream key (c + m) nonce (n - m)) (omega arith)
-
-pub turned_block : (key : List ℕ) (c : ℕ) (nonce text : List ℕ) → length text ≤ 64 → zip2 bit_xor text (block key c nonce) ≡ encrypt key c nonce text
-turned_block key c nonce text h = ap (zip2 bit_xor text) (sym (keystream_one key c nonce)) ∙ turned_by key c nonce text 1 (omega arith)
 
 -- a counter counts modulo 2^32
 keystream-mod : (key : List ℕ) (c d : ℕ) (nonce : List ℕ) (n : ℕ) → c % 2 ^ 32 ≡ d % 2 ^ 32 → keystream key c nonce n ≡ keystream key d nonce n

@@ -122,11 +122,11 @@ impl ChaCha20 {
     }
 
     // Turns a text that a block is long enough for.
-    #[tactic(auto, using(crate::proofs::Streams::turned_block))]
+    #[tactic(auto, using(crate::proofs::Streams::turned_by))]
     fn turn_block(&self, counter: u32, text: &mut [u8])
         requires { length text.old ≤ 64 }
         ensures { text.new ≡ encrypt self.now.key counter self.now.nonce text.old }
     {
-        xor_onto(text, &self.block(counter));
+        xor_onto(text, Scalar::stream(self, counter).as_flattened());
     }
 }

@@ -71,7 +71,7 @@ impl Hasher {
         }
     }
 
-    // Takes a whole block, where the buffer is empty.
+    // Takes a whole block, where the buffer is empty: it isn't copied there, as a piece is.
     fn absorb_block(&mut self, block: &[u8; 64])
         requires { (self.old.total % 64 ≡ 0) × (self.old.total + 64 < 2 ^ 64) }
         ensures total { self.new.total ≡ self.old.total + 64 }

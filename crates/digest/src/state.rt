@@ -28,6 +28,7 @@ impl Error for Fault {}
 #[derive(Clone, Copy)]
 pub struct Hasher {
     pub(crate) state: [u32; 8],
+    // Of which the first `total % 64` are used: fixed memory, no heap.
     pub(crate) block: [u8; 64],
     pub(crate) total: u64,
 }

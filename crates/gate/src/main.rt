@@ -70,7 +70,7 @@ fn read_events(rt: &HostRuntime, gate: &mut Gate) -> anyhow::Result<u64> {
     let mut line = Vec::new(rt.alloc());
     let mut told = BTreeSet::new(rt.alloc());
     let mut faults = 0u64;
-    // The numbers name the lines, and bound a loop that ends with the input.
+    // One buffer is used for all lines, where `split` makes one of each; the loop ends with the input.
     for number in 1..u64::MAX {
         line.clear();
         if input.read_until(b'\n', &mut line)? == 0 {

@@ -1,5 +1,5 @@
 // What can be wrong with an input line, in words that its writer understands. Assumes nothing.
-ghost use Rattle.std.specs.Prelude.{◌≡◌};
+ghost use Rattle.std.specs.Prelude.{◌≡◌, Some, codes};
 ghost use Rattle.lines.specs.declared.faults.LineFault.TheVariants.{NoMemory};
 
 use std::alloc::{AllocError, AllocFailed};
@@ -67,6 +67,8 @@ impl<T: Drop> From<AllocFailed<T>> for LineFault {
 pub struct NoHex(pub LineFault);
 
 impl fmt::Display for NoHex {
+    ghost output = { λ _. Some (codes "a word is no hex") };
+
     fn fmt<W: fmt::Write>(&self, f: &mut fmt::Formatter<W>) -> fmt::Result {
         f.write_str("a word is no hex")
     }

@@ -52,7 +52,7 @@ fn name_start(line: &[u8], name: &[u8]) -> Option<usize>
 pub fn find_name(line: &[u8]) -> Option<(Name, usize)>
     ensures { result ≡ find_name line.now }
 {
-    // A `for`: of `find_map` over the names nothing in the library says which is found.
+    // A `for`: with `find_map` over the names the proof stays open.
     for name in Name::ALL {
         if let Some(at) = name_start(line, name.text()) {
             return Some((name, at));

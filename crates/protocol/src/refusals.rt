@@ -132,14 +132,6 @@ impl fmt::Display for Refusal {
 
 impl Error for Refusal {}
 
-impl fmt::Display for UnknownNumber {
-    fn fmt<W: fmt::Write>(&self, f: &mut fmt::Formatter<W>) -> fmt::Result {
-        write!(f, "no refusal has the number {}", self.0)
-    }
-}
-
-impl Error for UnknownNumber {}
-
 /// States that each refusal stands among all, at its number. It does nothing.
 pub fn all_stated()
     ensures { AllAreThere Refusal.ALL }

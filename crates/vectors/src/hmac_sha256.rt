@@ -4,12 +4,12 @@ use crate::show::show;
 use anyhow::anyhow;
 use digest::{Key, hmac, sha256};
 
-// A key of at most 32 bytes, with zeros after it.
+// A key of at most 32 bytes, with zeros after it. (`seals_c` pads so too: a library for C and this
+// program have no crate in common that deals with keys that are too short.)
 fn filled(key: &[u8]) -> [u8; 32] {
     let mut whole = [0; 32];
-    for (to, from) in whole.iter_mut().zip(key) {
-        *to = *from;
-    }
+    let n = key.len().min(32);
+    whole[..n].copy_from_slice(&key[..n]);
     whole
 }
 
