@@ -1,10 +1,9 @@
 -- Steps that stop at the first fault. Assumes nothing.
-use Rattle.std.proofs.Common.{◌≡◌, ℕ, zero, suc, ◌+◌, cond, ◌&&◌, leb, List, Some, None, Option, Ok, Err, Result, sym, refl, ap, ◌∙◌, add-zero, add-suc, add-one, arith}
+use Rattle.std.proofs.Common.{◌≡◌, ℕ, zero, suc, ◌+◌, ◌&&◌, leb, List, Some, Option, Ok, Err, Result, sym, ap, ◌∙◌, add-zero, add-suc, add-one, arith}
 use Rattle.std.proofs.lemmas.Bool.Decides.{nat_tests}
 use Rattle.std.specs.declared.cmp.Ordering.{Ordering}
 use Rattle.std.specs.Ordering.{nat_cmp, partial_le}
 use Rattle.settings.specs.declared.faults.Cause.{Cause}
-use Rattle.settings.specs.declared.faults.Cause.TheVariants.{Wrong}
 use Rattle.settings.specs.declared.faults.Fault.{Fault}
 use Rattle.settings.specs.declared.plans.Settings.{Settings}
 use Rattle.settings.specs.Faults.{and_then}
@@ -35,11 +34,7 @@ fault-stays bs s i (suc more) e failed =
 
 -- a number of any size, checked by the order of its type, is checked as promises have it
 pub field_checked : (fault : Cause → Fault) (least limit : ℕ) (o q : Option ℕ) → o ≡ q → checked_by (λ n. partial_le by_size least n && partial_le by_size n limit) fault o ≡ checked fault least limit q
-field_checked fault least limit o q same = (λ i. checked_by (λ n. partial_le by_size least n && partial_le by_size n limit) fault (same i)) ∙ by q
+field_checked fault least limit o q same = λ i. checked_by (λ n. le least n i && le n limit i) fault (same i)
   where
     le : (a b : ℕ) → partial_le by_size a b ≡ leb a b
     le a b = grind (arith, nat_tests)
-
-    by : (p : Option ℕ) → checked_by (λ n. partial_le by_size least n && partial_le by_size n limit) fault p ≡ checked fault least limit p
-    by None = refl
-    by (Some n) = λ i. cond {A = Result ℕ Fault} (le least n i && le n limit i) (Ok n) (Err (fault Wrong))

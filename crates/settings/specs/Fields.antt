@@ -36,5 +36,4 @@ checked_by fits fault (Some x) = cond (fits x) (Ok x) (Err (fault Wrong))
 
 -- a number that is there and lies between two others; else the fault, given the cause
 abbrev pub checked : (Cause → Fault) → ℕ → ℕ → Option ℕ → Result ℕ Fault
-checked fault least limit None = Err (fault Missing)
-checked fault least limit (Some n) = cond (between least limit n) (Ok n) (Err (fault Wrong))
+checked fault least limit = checked_by (between least limit) fault

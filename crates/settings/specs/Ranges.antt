@@ -55,7 +55,7 @@ abbrev pub same_below : List Range → Range → ℕ → Option ℕ
 same_below ranges r zero = None
 same_below ranges r (suc n) = first_of (same_below ranges r n) (cond (same_range (range_at ranges n) r) (Some n) None)
 
--- the number that stands for nobody: no gate has it
+-- the number that stands for nobody: no gate has it; a number, since the abstract protocol's owner is a function to numbers
 abbrev pub nobody : ℕ
 nobody = 255
 

@@ -14,7 +14,7 @@ use protocol::limits::{MAX_GATES, MAX_LIFE, MIN_LIFE, MIN_MOST};
 use std::marker::Model;
 
 /// A pair key.
-#[derive(Clone, Copy, Debug, PartialEq, Eq)]
+#[derive(Clone, Copy, Debug)]
 pub struct Key {
     pub(crate) bytes: [u8; KEY],
 }
@@ -29,7 +29,7 @@ impl Default for Key {
 }
 
 // What a plan says of one gate: the range that it owns and its address outside.
-#[derive(Clone, Copy, Debug, Default, PartialEq, Eq)]
+#[derive(Clone, Copy, Debug, Default)]
 pub struct Site {
     range: Range,
     outside: u32,
@@ -37,7 +37,7 @@ pub struct Site {
 
 /// What all gates share: the life of a talk, the most packets that one sends, and for each gate
 /// the range that it owns and its address outside. Each plan is one that settings allow.
-#[derive(Clone, Copy, Debug, PartialEq, Eq)]
+#[derive(Clone, Copy, Debug)]
 pub struct Plan {
     life: u16,
     most: u32,
@@ -64,7 +64,7 @@ impl Model for Plan {
 
 /// The settings of one gate: what all gates share, its own number, and its key with each gate.
 // The keys stand beside the plan, and not in its sites, since all gates have one plan.
-#[derive(Clone, Copy, Debug, PartialEq, Eq)]
+#[derive(Clone, Copy, Debug)]
 pub struct Settings {
     pub(crate) own: u8,
     pub(crate) plan: Plan,
@@ -176,6 +176,8 @@ impl Plan {
     }
 
     /// The range of a gate; the blank one for a number that no gate has. It changes nothing.
+    // Callers rely on the blank, as on `outside`'s 0 and `key`'s zeros: an Option beside each would
+    // be a second way.
     pub fn range(&self, gate: u8) -> Range
         ensures { result ≡ range_at self.now.ranges gate }
     {

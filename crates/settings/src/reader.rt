@@ -28,7 +28,8 @@ impl<'a> Reader<'a> {
         self.bytes.get(at..)?.first_chunk().copied()
     }
 
-    // The number of one byte at a place.
+    // The number of one byte at a place. It and the next two differ in the type only, but no trait
+    // has `from_be_bytes`.
     pub fn byte(self, at: usize) -> Option<u8>
         ensures { result ≡ number_in self.entry.bytes.now at 1 }
     {
