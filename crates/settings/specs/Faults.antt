@@ -1,8 +1,22 @@
 -- Faults of settings, and steps that stop at the first one. Assumes nothing.
-use Rattle.std.specs.Prelude.{ℕ, Some, None, Ok, Err, Result}
+use Rattle.std.specs.Prelude.{ℕ, List, Some, None, Ok, Err, Result, codes}
 use Rattle.settings.specs.declared.faults.Field.{Field}
+use Rattle.settings.specs.declared.faults.Field.TheVariants.{Version, Gates, Own, Life, Most, Window, Key, Range, Outside, End}
 use Rattle.settings.specs.declared.faults.Cause.{Cause}
 use Rattle.settings.specs.declared.faults.Fault.{Fault}
+
+-- the field in words, in ASCII
+abbrev pub field_name : Field → List ℕ
+field_name Version = codes "version"
+field_name Gates = codes "number of gates"
+field_name Own = codes "own number"
+field_name Life = codes "life"
+field_name Most = codes "most"
+field_name Window = codes "window"
+field_name Key = codes "key"
+field_name Range = codes "range"
+field_name Outside = codes "address outside"
+field_name End = codes "end"
 
 -- the fault of a field before the entries
 abbrev pub header_fault : Field → Cause → Fault

@@ -1,9 +1,9 @@
 -- The settings of all gates from one plan and drawn bytes, and what it means that settings agree. Assumes nothing.
-use Rattle.std.specs.Prelude.{◌≡◌, ℕ, zero, suc, ◌+◌, ◌*◌, ◌<◌, cond, ◌||◌, List, map, length, replicate, Some, None, Ok, Option, ◌==◌, nat_lt, slice_index_or, slice_set}
+use Rattle.std.specs.Prelude.{◌≡◌, ℕ, zero, suc, ◌+◌, ◌*◌, ◌<◌, cond, ◌||◌, List, map, length, replicate, Some, None, Ok, Option, ◌==◌, nat_lt, slice_index_or, slice_set, codes}
 use Rattle.std.specs.List.{range_with_len}
 use Rattle.protocol.specs.Limits.{gates_limit}
 use Rattle.settings.specs.declared.making.MakeFault.{MakeFault}
-use Rattle.settings.specs.declared.making.MakeFault.TheVariants.{WrongGates, FewDrawn}
+use Rattle.settings.specs.declared.making.MakeFault.TheVariants.{WrongGates, FewDrawn, NoMemory}
 use Rattle.settings.specs.declared.plans.Key.{Key}
 use Rattle.settings.specs.declared.plans.Plan.{Plan}
 use Rattle.settings.specs.declared.plans.Settings.{Settings}
@@ -42,6 +42,12 @@ all_settings p drawn = map (settings_for p drawn) (range_with_len 0 p.gates)
 abbrev pub make_fault : Plan → List ℕ → Option MakeFault
 make_fault p drawn =
     cond (p.gates == 0 || nat_lt gates_limit p.gates) (Some WrongGates) (cond (nat_lt (length drawn) (drawn_needed p.gates)) (Some FewDrawn) None)
+
+-- a sentence for each cause, in ASCII
+abbrev pub make_sentence : MakeFault → List ℕ
+make_sentence WrongGates = codes "the plan has no gates, or too many"
+make_sentence FewDrawn = codes "there are fewer drawn bytes than 1024 for each gate"
+make_sentence NoMemory = codes "there is no memory"
 
 -- the settings of a gate in a list
 abbrev pub settings_at : List Settings → ℕ → Settings

@@ -1,8 +1,8 @@
 // What is wrong with settings: which field of which gate's entry, in words that people understand.
 // Every fault is the same refusal. Assumes nothing.
-ghost use Rattle.std.specs.Prelude.{◌≡◌};
+ghost use Rattle.std.specs.Prelude.{◌≡◌, Some};
 ghost use Rattle.protocol.specs.declared.refusals.Refusal.TheVariants.{BadSettings};
-ghost use Rattle.settings.specs.Faults.{header_fault, entry_fault};
+ghost use Rattle.settings.specs.Faults.{field_name, header_fault, entry_fault};
 ghost use Rattle.settings.specs.declared.faults.Cause.TheVariants as causes;
 
 use protocol::Refusal;
@@ -87,6 +87,8 @@ impl Fault {
 
 // The field in words, as a sentence goes on after 'the'.
 impl fmt::Display for Field {
+    ghost output = { λ x. Some (field_name x) };
+
     fn fmt<W: fmt::Write>(&self, f: &mut fmt::Formatter<W>) -> fmt::Result {
         f.write_str(match self {
             Field::Version => "version",

@@ -3,7 +3,7 @@
 ghost use Rattle.std.specs.Prelude.{◌≡◌, ◌<◌, ◌≤◌, ◌⊎◌, cond, nat_lt, length, IfOk, IfErr, Some, None};
 ghost use Rattle.settings.specs.declared.making.MakeFault.TheVariants.{NoMemory};
 ghost use Rattle.settings.specs.Plans.{blank_key};
-ghost use Rattle.settings.specs.Making.{pair_place, drawn_needed, key_for, settings_for, all_settings, make_fault, Agree, AllRead, PairsApart};
+ghost use Rattle.settings.specs.Making.{pair_place, drawn_needed, key_for, settings_for, all_settings, make_fault, make_sentence, Agree, AllRead, PairsApart};
 
 use crate::layout::KEY;
 use crate::plans::{Key, Plan, Settings};
@@ -27,6 +27,8 @@ pub enum MakeFault {
 }
 
 impl fmt::Display for MakeFault {
+    ghost output = { λ x. Some (make_sentence x) };
+
     fn fmt<W: fmt::Write>(&self, f: &mut fmt::Formatter<W>) -> fmt::Result {
         f.write_str(match self {
             MakeFault::WrongGates => "the plan has no gates, or too many",
@@ -70,7 +72,7 @@ fn key_for(drawn: &[u8], gates: usize, own: usize, gate: usize) -> Key
 
 // The settings of one gate.
 fn settings_for(plan: Plan, drawn: &[u8], own: u8) -> Settings
-    requires { (own < plan.gates) × ((plan.gates ≤ 32) × (drawn_needed plan.gates ≤ length drawn.now)) }
+    requires { (own < plan.gates) × (drawn_needed plan.gates ≤ length drawn.now) }
     ensures { result ≡ settings_for plan drawn.now own }
 {
     let gates = usize::from(plan.gates());
