@@ -34,9 +34,7 @@ fn header_field<T: PartialOrd + Drop>(
 ) -> Result<T, Fault>
     ensures { result ≡ checked_by (λ n. partial_le T.partial_cmp least n && partial_le T.partial_cmp n limit) (header_fault field) number }
 {
-    let Some(number) = number else {
-        return Err(Fault::in_header(field, Cause::Missing));
-    };
+    let number = number.ok_or(Fault::in_header(field, Cause::Missing))?;
     if least <= number && number <= limit {
         Ok(number)
     } else {
@@ -93,9 +91,8 @@ impl<'a> Reader<'a> {
     fn gate_key(self, gate: u8, own: u8) -> Result<Key, Fault>
         ensures { result ≡ key_checked own gate (bytes_in self.entry.bytes.now (entry_at gate) key_size) }
     {
-        let Some(key) = self.key(entry_at(gate)) else {
-            return Err(Fault::in_entry(Field::Key, gate, Cause::Missing));
-        };
+        let key = self.key(entry_at(gate));
+        let key = key.ok_or(Fault::in_entry(Field::Key, gate, Cause::Missing))?;
         if gate == own && !all_zero(&key.bytes) {
             return Err(Fault::in_entry(Field::Key, gate, Cause::Wrong));
         }
