@@ -1,6 +1,6 @@
 // Settings from bytes: read field by field to the end or to the first fault. Assumes nothing.
-ghost use Rattle.std.specs.Prelude.{◌≡◌, ◌+◌, ◌<◌, ◌&&◌, IfOk};
-ghost use Rattle.std.specs.Ordering.{partial_le};
+ghost use Rattle.std.specs.Prelude.{◌≡◌, ◌+◌, ◌<◌, IfOk};
+ghost use Rattle.std.specs.Range.{range_inclusive_contains};
 ghost use Rattle.settings.specs.Layout.{entry_at, key_size};
 ghost use Rattle.settings.specs.Faults.{header_fault};
 ghost use Rattle.settings.specs.Fields.{bytes_in, checked_by};
@@ -15,6 +15,7 @@ use crate::plans::{Key, Plan, Settings};
 use crate::ranges::Range;
 use crate::reader::Reader;
 use protocol::limits::{MAX_LIFE, MAX_MOST, MIN_LIFE, MIN_MOST};
+use std::ops::RangeInclusive;
 
 // What stands before the entries.
 #[derive(Clone, Copy)]
@@ -29,13 +30,12 @@ pub struct Header {
 fn header_field<T: PartialOrd + Drop>(
     field: Field,
     number: Option<T>,
-    least: T,
-    limit: T,
+    allowed: RangeInclusive<T>,
 ) -> Result<T, Fault>
-    ensures { result ≡ checked_by (λ n. partial_le T.partial_cmp least n && partial_le T.partial_cmp n limit) (header_fault field) number }
+    ensures { result ≡ checked_by (range_inclusive_contains T.partial_cmp allowed) (header_fault field) number }
 {
     let number = number.ok_or(Fault::in_header(field, Cause::Missing))?;
-    if least <= number && number <= limit {
+    if allowed.contains(&number) {
         Ok(number)
     } else {
         Err(Fault::in_header(field, Cause::Wrong))
@@ -63,13 +63,13 @@ impl<'a> Reader<'a> {
         ensures { result ≡ header_read self.entry.bytes.now }
     {
         let version = self.byte(VERSION_AT);
-        let _version = header_field(Field::Version, version, ONLY_VERSION, ONLY_VERSION)?;
-        let gates = header_field(Field::Gates, self.byte(GATES_AT), 1, LAST_GATES)?;
-        let own = header_field(Field::Own, self.byte(OWN_AT), 0, gates - 1)?;
-        let life = header_field(Field::Life, self.short(LIFE_AT), MIN_LIFE, MAX_LIFE)?;
-        let most = header_field(Field::Most, self.long(MOST_AT), MIN_MOST, MAX_MOST)?;
+        let _version = header_field(Field::Version, version, ONLY_VERSION..=ONLY_VERSION)?;
+        let gates = header_field(Field::Gates, self.byte(GATES_AT), 1..=LAST_GATES)?;
+        let own = header_field(Field::Own, self.byte(OWN_AT), 0..=gates - 1)?;
+        let life = header_field(Field::Life, self.short(LIFE_AT), MIN_LIFE..=MAX_LIFE)?;
+        let most = header_field(Field::Most, self.long(MOST_AT), MIN_MOST..=MAX_MOST)?;
         let window = self.short(WINDOW_AT);
-        let _window = header_field(Field::Window, window, ONLY_WINDOW, ONLY_WINDOW)?;
+        let _window = header_field(Field::Window, window, ONLY_WINDOW..=ONLY_WINDOW)?;
         Ok(Header {
             gates,
             own,
