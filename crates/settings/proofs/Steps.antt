@@ -34,7 +34,7 @@ fault-stays bs s i zero e failed = ap (entries_read bs s) (add-zero i) ∙ faile
 fault-stays bs s i (suc more) e failed =
     ap (entries_read bs s) (add-suc i more) ∙ ap (λ q. and_then q (entry_read bs (i + more))) (fault-stays bs s i more e failed)
 
--- a number of any size, checked by the order of its type, is checked as promises have it
+-- a number of any size, checked by a range of its type, is checked as promises have it
 pub field_checked : (bs : List ℕ) (f : Field) (at size least limit : ℕ) {r : RangeInclusive ℕ} {o : Option ℕ} {x : Result ℕ Fault} → range_inclusive_start r ≡ least → range_inclusive_end r ≡ limit → range_inclusive_exhausted r ≡ false → o ≡ number_in bs at size → x ≡ checked_by (range_inclusive_contains by_size r) (header_fault f) o → x ≡ header_field bs f at size least limit
 field_checked bs f at size least limit {r} {o} {x} first last fresh there found = found ∙ (λ i. checked_by (λ n. within n i) (header_fault f) (there i))
   where

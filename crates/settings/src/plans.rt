@@ -238,9 +238,9 @@ impl Key {
     }
 }
 
-/// States that the owner by a plan is the abstract protocol's: in every run by its rules, what came out
-/// came from an address that the gate by whom it says it is owns, for an address that the gate where it
-/// came out owns. It does nothing.
+/// States that the owner by a plan is the abstract protocol's: in every run by its rules, what came
+/// out came from an address that the gate by whom it says it is owns, for an address that the gate
+/// where it came out owns. It does nothing.
 #[tactic(auto, using(crate::proofs::Ruling::runs_owned))]
 pub fn runs_stated()
     ensures { RunsAreOwned }
