@@ -32,7 +32,8 @@ module _ (n : ℕ) (t : List ℕ) where
   pub part_last : (b : ℕ) → number_read 255 (front dot t) ≡ Some b → behind dot t ≡ None → bytes_read 1 n (slice_split dot t) ≡ Some (n * 256 + b)
   part_last b good none = part-first 0 ∙ (λ i. and_then (good i) (λ c. bytes_read 0 (n * 256 + c) (others dot (none i))))
 
--- after so many bytes that are a number, what an iterator over parts has left is the others, which make it this one or none
+-- after so many bytes that are a number, what an iterator over parts has left is the others, which
+-- make it this one or none
 pub record Rest {S A : Type 0} (steps : S → Option A → S → Type 0) (v : A → List ℕ) (s : S) (turn n : ℕ) (o : Option ℕ) : Type 0 where
   pub parts : List (List ℕ)
   pub yields : YieldsList steps v s parts

@@ -1,4 +1,5 @@
--- Numbers, addresses and prefixes as they are written, and that reading gives them back. Assumes nothing.
+-- Numbers, addresses and prefixes as they are written, and that reading gives them back. Assumes
+-- nothing.
 use Rattle.std.specs.Prelude.{◌≡◌, ℕ, ◌/◌, ◌%◌, ◌^◌, ◌<◌, ◌≤◌, List, ◌∷◌, ◌++◌, Some, decimal}
 use Rattle.addresses.specs.declared.dotted.Prefix.{Prefix}
 use Rattle.addresses.specs.Numbers.{number_read}

@@ -3,7 +3,8 @@ use Rattle.std.specs.Prelude.{ℕ, List, Some, None, Option}
 use Rattle.settings.specs.declared.plans.Plan.{Plan}
 use Rattle.draft.specs.declared.names.Name.{Name}
 
--- its life and its most, where they were read; the plan, where a gate was read; and the names of its gates, in order
+-- its life and its most, where they were read; the plan, where a gate was read; and the names of
+-- its gates, in order
 pub record Drafted : Type 0 where
   pub life : Option ℕ
   pub most : Option ℕ

@@ -1,4 +1,5 @@
--- Which texts are which plan: line after line, to the end or to the first line that is wrong. Assumes nothing.
+-- Which texts are which plan: line after line, to the end or to the first line that is wrong.
+-- Assumes nothing.
 use Rattle.std.specs.Prelude.{ℕ, ◌+◌, Bool, ◌==◌, List, [], ◌∷◌, Ok, Err, Result}
 use Rattle.std.specs.List.{slice_split}
 use Rattle.draft.specs.declared.drafts.Draft.{Draft}

@@ -1,9 +1,9 @@
 // A plan as far as its text was read, and what each line adds to it. A line that is refused adds
 // nothing. Assumes nothing.
-ghost use Rattle.std.specs.Prelude.{◌≡◌, ◌≤◌, length, IfOk, slice_get};
+ghost use Rattle.std.specs.Prelude.{◌≡◌, ◌≤◌, length, slice_get};
 ghost use Rattle.std.specs.Option.{option_map};
 ghost use Rattle.draft.specs.Drafted.{gates_of};
-ghost use Rattle.draft.specs.Drafts.{empty_draft, once_read, life_taken, most_taken, begun, next_gate, new_name, grown, gate_taken, setting_taken, line_taken};
+ghost use Rattle.draft.specs.Drafts.{empty_draft, life_taken, most_taken, begun, next_gate, new_name, grown, gate_taken, setting_taken, line_taken};
 ghost use Rattle.draft.specs.Ranges.{range_of};
 ghost use Rattle.draft.specs.Words.{words_of};
 
@@ -50,17 +50,6 @@ fn range_of(prefix: Prefix) -> Range
     }
 }
 
-// The number of a line that may stand once, up to a limit.
-fn read_once(twice: bool, word: &[u8], limit: u32) -> Result<u32, TextFault>
-    ensures value { result ≡ once_read twice limit word.now }
-    ensures within { IfOk result (λ n. n ≤ limit) }
-{
-    if twice {
-        return Err(TextFault::Twice);
-    }
-    read_number(word, limit).ok_or(TextFault::NotNumber)
-}
-
 // The plan with one gate more, by the texts of its prefix and its address outside.
 #[tactic(auto, unfolding(crate::specs::Drafts::grown))]
 fn grown(plan: Plan, prefix: &[u8], outside: &[u8]) -> Result<Plan, TextFault>
@@ -99,12 +88,17 @@ impl Draft {
         self.names.get(usize::from(gate))
     }
 
-    // The draft with its life.
+    // The draft with its life. Beside `take_most`, since each has a field, a limit and a parameter
+    // of `Plan::new` of its own.
     #[tactic(auto, unfolding(crate::specs::Drafts::life_taken))]
     fn take_life(mut self, word: &[u8]) -> Result<Draft, TextFault>
         ensures { result ≡ life_taken word.now self }
     {
-        let life = read_once(self.life.is_some(), word, u32::from(u16::MAX))? as u16;
+        if self.life.is_some() {
+            return Err(TextFault::Twice);
+        }
+        let limit = u32::from(u16::MAX);
+        let life = read_number(word, limit).ok_or(TextFault::NotNumber)? as u16;
         Plan::new(life, MIN_MOST)?;
         self.life = Some(life);
         Ok(self)
@@ -115,7 +109,10 @@ impl Draft {
     fn take_most(mut self, word: &[u8]) -> Result<Draft, TextFault>
         ensures { result ≡ most_taken word.now self }
     {
-        let most = read_once(self.most.is_some(), word, u32::MAX)?;
+        if self.most.is_some() {
+            return Err(TextFault::Twice);
+        }
+        let most = read_number(word, u32::MAX).ok_or(TextFault::NotNumber)?;
         Plan::new(MIN_LIFE, most)?;
         self.most = Some(most);
         Ok(self)

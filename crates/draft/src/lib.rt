@@ -6,6 +6,8 @@ mod drafts;
 mod faults;
 mod names;
 mod reading;
+#[cfg(test)]
+mod tests;
 mod words;
 
 pub use drafts::Draft;

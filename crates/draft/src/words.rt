@@ -5,8 +5,8 @@ ghost use Rattle.draft.specs.Words.{words_of};
 
 use addresses::cut;
 
-// The words of a line, one after another. A struct of its own: of `split` and `filter` with their closures nothing joins what
-// five calls of `next` in a row give.
+// The words of a line, one after another. A struct of its own: of `split` and `filter` with their
+// closures nothing joins what five calls of `next` in a row give.
 #[derive(Drop)]
 pub(crate) struct Words<'a> {
     pub(crate) rest: &'a [u8],
