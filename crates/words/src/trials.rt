@@ -113,7 +113,7 @@ impl Trial<'_> {
     }
 
     // Says of each way in which a word is changed why it is refused then, a line for each run of
-    // equal answers.
+    // equal answers. All answers are kept first, as `chunk_by` cuts a slice.
     fn runs<F: FnMut(usize) -> Option<Refusal>>(
         &self,
         changed: &str,
@@ -123,14 +123,19 @@ impl Trial<'_> {
         requires { (f : _) (x : _) → F.pre f x }
     {
         let (rt, label) = (self.rt, self.label);
-        let answers: Vec<Option<Refusal>> = (0..ways.max(1)).map(answer).collect(rt.alloc())?;
-        let mut from = 0usize;
-        for run in answers.as_slice().chunk_by(|one, next| one == next) {
-            let end = from.saturating_add(run.len());
-            let to = end - 1;
-            let number = run[0].map_or(0, u8::from);
+        let answers: Vec<(usize, Option<Refusal>)> = (0..ways.max(1))
+            .map(answer)
+            .enumerate()
+            .collect(rt.alloc())?;
+        for run in answers
+            .as_slice()
+            .chunk_by(|(_, one), (_, next)| one == next)
+        {
+            let (from, refused) = run.first().unwrap();
+            let (to, _) = run.last().unwrap();
+            // The output says 0 where the word opens.
+            let number = refused.map_or(0, u8::from);
             println!(rt; "{label} {changed} {from} to {to}: refused {number}")?;
-            from = end;
         }
         Ok(())
     }
