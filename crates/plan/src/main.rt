@@ -88,8 +88,9 @@ fn check(rt: &HostRuntime, path: &str) -> anyhow::Result<()> {
 fn read_plan(rt: &HostRuntime, path: &str) -> anyhow::Result<Draft> {
     let content = fs::read_to_string(rt, path).or_else(|why| refuse(rt, path, why, UNREAD))?;
     let mut draft = Draft::new(rt.alloc());
-    for (number, line) in (1..u64::MAX).zip(content.as_str().lines()) {
+    for (before, line) in content.as_str().lines().enumerate() {
         draft.take_line(rt.alloc(), line).or_else(|fault| {
+            let number = before + 1;
             let why = format_args!("line {number}: {fault}");
             refuse(rt, path, why, UNREAD)
         })?;

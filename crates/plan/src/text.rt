@@ -1,10 +1,11 @@
-// A plan as text: life, most, and then a line for each gate. Assumes nothing.
+// A plan as text: life, most, and then a line for each gate. Its reader stays beside that of crate
+// draft, since neither can be the other: this one also takes zeros in front of numbers, names of
+// any length and Unicode's blanks, and that one bytes that are no text. Assumes nothing.
 use crate::addresses::{parse_address, parse_prefix};
 use crate::faults::TextFault;
 use protocol::limits::{MIN_LIFE, MIN_MOST};
 use settings::Plan;
 use std::alloc::Global;
-use std::str::FromStr;
 
 /// A plan as far as its text was read, with the names of its gates in the order of their numbers.
 #[derive(Drop)]
@@ -61,26 +62,23 @@ impl Draft {
         }
     }
 
-    // A number that stands once, before the first gate.
-    fn read_once<T: FromStr>(&self, before: bool, text: &str) -> Result<T, TextFault>
-    where
-        T::Err: Drop,
-    {
-        if before || self.plan.is_some() {
+    // Takes life, once and before the first gate. Beside `take_most`, since each has a field, a type
+    // and a parameter of `Plan::new` of its own.
+    fn take_life(&mut self, text: &str) -> Result<(), TextFault> {
+        if self.life.is_some() || self.plan.is_some() {
             return Err(TextFault::Twice);
         }
-        text.parse().ok().ok_or(TextFault::NotNumber)
-    }
-
-    fn take_life(&mut self, text: &str) -> Result<(), TextFault> {
-        let life = self.read_once(self.life.is_some(), text)?;
+        let life = text.parse().ok().ok_or(TextFault::NotNumber)?;
         let _allowed = Plan::new(life, MIN_MOST)?;
         self.life = Some(life);
         Ok(())
     }
 
     fn take_most(&mut self, text: &str) -> Result<(), TextFault> {
-        let most = self.read_once(self.most.is_some(), text)?;
+        if self.most.is_some() || self.plan.is_some() {
+            return Err(TextFault::Twice);
+        }
+        let most = text.parse().ok().ok_or(TextFault::NotNumber)?;
         let _allowed = Plan::new(MIN_LIFE, most)?;
         self.most = Some(most);
         Ok(())
