@@ -6,6 +6,7 @@ use crate::faults::TextFault;
 use protocol::limits::{MIN_LIFE, MIN_MOST};
 use settings::Plan;
 use std::alloc::Global;
+use std::array;
 
 /// A plan as far as its text was read, with the names of its gates in the order of their numbers.
 #[derive(Drop)]
@@ -46,16 +47,11 @@ impl Draft {
         if first.starts_with('#') {
             return Ok(());
         }
-        match (
-            first,
-            words.next(),
-            words.next(),
-            words.next(),
-            words.next(),
-        ) {
-            ("life", Some(life), None, None, None) => self.take_life(life),
-            ("most", Some(most), None, None, None) => self.take_most(most),
-            (number, Some(name), Some(prefix), Some(outside), None) => {
+        let others: [_; 4] = array::from_fn(|_| words.next());
+        match (first, others) {
+            ("life", [Some(life), None, None, None]) => self.take_life(life),
+            ("most", [Some(most), None, None, None]) => self.take_most(most),
+            (number, [Some(name), Some(prefix), Some(outside), None]) => {
                 self.take_gate(heap, number, name, prefix, outside)
             }
             _ => Err(TextFault::Columns),
