@@ -3,6 +3,7 @@ use Rattle.std.specs.Prelude.{ℕ, ◌+◌, ◌-◌, ◌*◌, Bool, cond, ◌&&�
 use Rattle.std.specs.Char.{is_ascii_digit}
 
 -- a step after another: not done where that one gave nothing
+-- (std's option_and_then takes the function first: steps would read from the last to the first)
 abbrev pub and_then : {A B : Type 0} → Option A → (A → Option B) → Option B
 and_then None next = None
 and_then (Some x) next = next x

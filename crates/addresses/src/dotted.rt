@@ -41,6 +41,7 @@ pub fn read_prefix(text: &[u8]) -> Option<Prefix>
     let (front, behind) = cut(text, |byte| *byte == b'/');
     let behind = behind?;
     let address = read_address(front)?;
+    // `as` loses nothing: it is at most 32.
     let bits = read_number(behind, 32)? as u8;
     Some(Prefix { address, bits })
 }

@@ -21,6 +21,7 @@ pub fn read_number(text: &[u8], limit: u32) -> Option<u32>
     if matches!(text, [] | [b'0', _, ..]) {
         return None;
     }
+    // A `for` with `?`: `try_fold` is no plainer, and needs a lemma as long as the loop's proof.
     let mut number = 0;
     for digit in text {
         number = with_digit(number, *digit, limit)?;

@@ -14,6 +14,7 @@ use addresses::{Prefix, read_address, read_number, read_prefix};
 use arrayvec::ArrayVec;
 use protocol::limits::{MIN_LIFE, MIN_MOST};
 use settings::{Plan, Range};
+use std::array;
 use std::marker::Model;
 
 /// A plan as far as its text was read, with the names of its gates.
@@ -46,6 +47,7 @@ fn range_of(prefix: Prefix) -> Range
     let others = (1u64 << (32 - prefix.bits)) - 1;
     Range {
         first: prefix.address,
+        // `as` loses nothing: others is below 2^32.
         last: prefix.address.wrapping_add(others as u32),
     }
 }
@@ -98,6 +100,7 @@ impl Draft {
             return Err(TextFault::Twice);
         }
         let limit = u32::from(u16::MAX);
+        // `as` loses nothing: the limit is that of a u16.
         let life = read_number(word, limit).ok_or(TextFault::NotNumber)? as u16;
         Plan::new(life, MIN_MOST)?;
         self.life = Some(life);
@@ -150,6 +153,7 @@ impl Draft {
     {
         let name = Name::read(word).ok_or(TextFault::NotName)?;
         match named(&self.names, word) {
+            // At most 32 names: `as` loses nothing, and `try_from` is no plainer.
             Some(gate) => Err(TextFault::SameName(gate as u8)),
             None => Ok(name),
         }
@@ -191,13 +195,7 @@ impl Draft {
         ensures { result ≡ line_taken (words_of line.now) self }
     {
         let mut words = Words { rest: line };
-        let columns = [
-            words.next(),
-            words.next(),
-            words.next(),
-            words.next(),
-            words.next(),
-        ];
+        let columns: [_; 5] = array::from_fn(|_| words.next());
         match columns {
             [None, ..] => Ok(self),
             [Some(first), ..] if first.starts_with(b"#") => Ok(self),

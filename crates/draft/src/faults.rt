@@ -67,6 +67,7 @@ impl From<Fault> for TextFault {
     }
 }
 
+// No `ghost output`: faults have numbers in their texts, which the output of `texts` pins.
 impl fmt::Display for Wrong {
     fn fmt<W: fmt::Write>(&self, f: &mut fmt::Formatter<W>) -> fmt::Result {
         write!(f, "line {}: {}", self.line, self.fault)

@@ -146,6 +146,7 @@ pub fn read(bytes: &[u8]) -> Result<Settings, Fault>
         plan: Plan::empty(header.life, header.most),
         keys: [Key::default(); 32],
     };
+    // The number is no index: the entry's faults name it, and a fold that can fail is no plainer.
     for gate in 0..header.gates {
         settings = reader.entry(gate, settings)?;
     }

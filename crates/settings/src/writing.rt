@@ -36,6 +36,7 @@ impl Settings {
     {
         let mut bytes = Vec::new(heap);
         self.write_header(&mut bytes)?;
+        // The number is no index: key, range and address are asked for by it.
         for gate in 0..self.plan.gates() {
             self.write_entry(gate, &mut bytes)?;
         }

@@ -36,6 +36,7 @@ fn load(block: &[u8]) -> [u32; 64]
     ensures { result ≡ block_words 16 block.now }
 {
     let mut w = [0; 64];
+    // By the word's number: of what is written through a `zip` of `iter_mut` nothing is known.
     for (t, bytes) in block.as_chunks().0.iter().enumerate() {
         w[t] = u32::from_be_bytes(*bytes);
     }

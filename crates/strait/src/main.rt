@@ -7,6 +7,7 @@ use refinement::EventKind::{self, Bring, Greet, Put, Restart, Tick};
 use refinement::{Event, Parcel, Sea};
 use std::fmt;
 
+// A plain table, read by `get`: a struct round it alone is no plainer.
 /// Gate k owns the addresses from 10 * k to 10 * k + 9; the rest is nobody's.
 const OWNERS: [u8; 30] = [
     0, 0, 0, 0, 0, 0, 0, 0, 0, 0, 1, 1, 1, 1, 1, 1, 1, 1, 1, 1, 2, 2, 2, 2, 2, 2, 2, 2, 2, 2,

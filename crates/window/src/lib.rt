@@ -129,6 +129,7 @@ fn bit_of(n: u64) -> u64
 }
 
 // The ring with the words cleared that are passed over when the highest number grows from `top` to `n`: at most all.
+// The loop is left by a label, a form of this project: it ends early where few words are passed over.
 #[tactic(auto, using(crate::proofs::Ring::cleared_more), unfolding(crate::specs::Heard::cleared))]
 fn clear(mut ring: [u64; WORDS], top: u64, n: u64) -> [u64; WORDS]
     ensures { result ≡ passed top n ring }

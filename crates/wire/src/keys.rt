@@ -21,6 +21,7 @@ impl PairKeys {
 
     /// What the gate keeps of the key of a talk with the other gate, for which it drew the tag
     /// `mine` and the other one `theirs`.
+    // Two parameters: this crate doesn't know a gate's memory, and a struct for one call is no plainer.
     pub fn talk(&self, mine: u64, theirs: u64) -> TalkKeys
         ensures holds { (key : List ℕ) → PairHolds self.now key → TalkHolds result key }
         ensures gates { (result.side.own ≡ self.now.side.own) × (result.side.peer ≡ self.now.side.peer) }

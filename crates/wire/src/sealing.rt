@@ -15,7 +15,8 @@ use protocol::Kind;
 use protocol::limits::{CLEAR, FIELD, HANDSHAKE, HANDSHAKE_INSIDE, MAX_PACKET, SEALED, SUM};
 
 impl Side {
-    // All that stands in clear in a word for the other gate, each part at its place in the layout.
+    // All that stands in clear in a word for the other gate, each part at its place: their order
+    // stands on the page of the layout alone.
     fn head_of(&self, kind: Kind, field: &[u8; FIELD]) -> [u8; INSIDE_AT]
         ensures { result ≡ clear kind self.now.own self.now.peer field.now }
     {
@@ -28,7 +29,8 @@ impl Side {
     }
 
     // Writes the clear bytes and the inside, turns the inside, and writes the sum, in memory as
-    // long as the word. `short` is a clause, as at `turn_short`.
+    // long as the word. `short` is a clause, as at `turn_short`, and so is `room`: no type says that a
+    // slice is 35 bytes longer than another.
     fn seal(&self, head: &[u8; INSIDE_AT], cipher: &ChaCha20, inside: &[u8], out: &mut [u8])
         requires short { length inside.now ≤ 1280 }
         requires room { length out.old ≡ 35 + length inside.now }
