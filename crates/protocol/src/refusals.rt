@@ -1,6 +1,6 @@
 // Why something is refused: fifteen causes, each with its number and a sentence for people, in the
 // order of their numbers. Assumes nothing.
-ghost use Rattle.std.specs.Prelude.{Some};
+ghost use Rattle.std.specs.Prelude.{◌≡◌, Some};
 ghost use Rattle.protocol.specs.Refusals.{refusal_sentence, HasNumber, IsRefusalOf, AllAreThere};
 
 use std::error::Error;
@@ -64,6 +64,31 @@ impl Refusal {
         Refusal::NoDrawnBytes,
         Refusal::BadSettings,
     ];
+
+    /// The refusal in a sentence for people. It changes nothing and never refuses.
+    pub fn sentence(self) -> &'static str
+        ensures { result.now ≡ refusal_sentence self }
+    {
+        match self {
+            Refusal::UnknownWord => "the word is of unknown kind or length",
+            Refusal::WrongGate =>
+                "the word is by or for a gate that isn't there, for another gate, or by this one",
+            Refusal::WrongSum => "the word's sum isn't right",
+            Refusal::ZeroTag => "the word has a tag of 0",
+            Refusal::OldHello => "the hello's tick isn't above that of the last hello",
+            Refusal::UnaskedReply => "the reply is to no hello that waits",
+            Refusal::NoTalk => "there is no such talk, or it is over",
+            Refusal::BelowWindow => "the number is 0 or too far below the highest",
+            Refusal::RepeatedNumber => "the number came before",
+            Refusal::BadPacket =>
+                "the packet isn't IPv4, is cut, too long, or has a wrong header sum",
+            Refusal::ForeignAddress => "an address isn't owned by the gate that must own it",
+            Refusal::NoRoute => "the destination is nobody's, or this gate's own",
+            Refusal::QueueFull => "there is no room for another packet to wait",
+            Refusal::NoDrawnBytes => "the drawn bytes are used up",
+            Refusal::BadSettings => "a setting is damaged or out of range",
+        }
+    }
 }
 
 /// The refusal's number, from 1 to 15.
@@ -103,30 +128,12 @@ impl TryFrom<u8> for Refusal {
     }
 }
 
-/// The refusal in a sentence for people.
+/// The refusal's sentence.
 impl fmt::Display for Refusal {
     ghost output = { λ x. Some (refusal_sentence x) };
 
     fn fmt<W: fmt::Write>(&self, f: &mut fmt::Formatter<W>) -> fmt::Result {
-        f.write_str(match self {
-            Refusal::UnknownWord => "the word is of unknown kind or length",
-            Refusal::WrongGate =>
-                "the word is by or for a gate that isn't there, for another gate, or by this one",
-            Refusal::WrongSum => "the word's sum isn't right",
-            Refusal::ZeroTag => "the word has a tag of 0",
-            Refusal::OldHello => "the hello's tick isn't above that of the last hello",
-            Refusal::UnaskedReply => "the reply is to no hello that waits",
-            Refusal::NoTalk => "there is no such talk, or it is over",
-            Refusal::BelowWindow => "the number is 0 or too far below the highest",
-            Refusal::RepeatedNumber => "the number came before",
-            Refusal::BadPacket =>
-                "the packet isn't IPv4, is cut, too long, or has a wrong header sum",
-            Refusal::ForeignAddress => "an address isn't owned by the gate that must own it",
-            Refusal::NoRoute => "the destination is nobody's, or this gate's own",
-            Refusal::QueueFull => "there is no room for another packet to wait",
-            Refusal::NoDrawnBytes => "the drawn bytes are used up",
-            Refusal::BadSettings => "a setting is damaged or out of range",
-        })
+        f.write_str(self.sentence())
     }
 }
 
