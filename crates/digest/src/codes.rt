@@ -56,6 +56,7 @@ impl Mac {
 
     /// Takes a part of the message, of any length. It is refused, and nothing changes, where the
     /// padded key and the message would have 2^64 bits or more.
+    #[inline(always)]
     pub fn update(&mut self, part: &[u8]) -> Result<(), Fault>
         ensures answer { result ≡ limited (self.old.inner.total + length part.now) tt }
         ensures total { self.new.inner.total ≡ self.old.inner.total + (if is_ok result then length part.now else 0) }

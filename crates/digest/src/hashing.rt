@@ -58,6 +58,7 @@ impl Hasher {
     }
 
     // Takes a piece that the buffer has room for.
+    #[inline(always)]
     pub(crate) fn absorb(&mut self, piece: &[u8])
         requires { (self.old.total % 64 + length piece.now ≤ 64) × (self.old.total + length piece.now < 2 ^ 64) }
         ensures { Absorbs self.old self.new piece.now }
@@ -81,12 +82,19 @@ impl Hasher {
         self.total += 64;
     }
 
-    // Takes a part of any length: what ends the block in the buffer, whole blocks, and the rest.
+    // Takes a part of any length: what ends the block in the buffer, whole blocks, and the rest; one
+    // that ends no block goes to the buffer at once. Where this stands in the caller, the compiler
+    // sees that buffer and part lie apart, and needs no `memmove`.
+    #[inline(always)]
     fn feed(&mut self, part: &[u8])
         requires { self.old.total + length part.now < 2 ^ 64 }
         ensures { Absorbs self.old self.new part.now }
     {
-        let room = (64 - self.fill()) % 64;
+        let fill = self.fill();
+        if part.len() < 64 - fill {
+            return self.absorb(part);
+        }
+        let room = (64 - fill) % 64;
         let (first, others) = part.split_at(part.len().min(room));
         self.absorb(first);
         let (blocks, rest) = others.as_chunks();
@@ -120,6 +128,7 @@ impl Hasher {
 
     /// Takes a part of the message, of any length. It is refused, and nothing changes, where the
     /// message would have 2^64 bits or more.
+    #[inline(always)]
     pub fn update(&mut self, part: &[u8]) -> Result<(), Fault>
         ensures answer { result ≡ limited (self.old.total + length part.now) tt }
         ensures total { self.new.total ≡ self.old.total + (if is_ok result then length part.now else 0) }

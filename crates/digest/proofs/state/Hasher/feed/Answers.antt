@@ -13,11 +13,11 @@ loop-block-preserved c = record {
 }
 
 pub absorb_block-requires : goal.absorb_block-requires
-absorb_block-requires c = (omega (arith, c.absorb.ensures.total), omega (arith, c.absorb.ensures.total))
+absorb_block-requires c = (omega (arith, c.absorb-2.ensures.total), omega (arith, c.absorb-2.ensures.total))
 
 pub returns : goal.returns
 returns c =
     absorbs_all _ _ _ _ c.split_at.result.0.now (concat (take c.loop-block.block-index c.as_chunks.result.0.now)) c.as_chunks.result.1.now c.args.part.now
-    c.absorb.ensures c.loop-block.invariant.absorbs c.absorb-2.ensures
+    c.absorb-2.ensures c.loop-block.invariant.absorbs c.absorb-3.ensures
     (part_is c.args.part.now c.split_at.result.0.now c.split_at.result.1.now c.as_chunks.result.1.now c.as_chunks.result.0.now c.min.result c.loop-block.block-index
     c.split_at.ensures.front c.split_at.ensures.back c.as_chunks.ensures.front c.as_chunks.ensures.back (omega arith))
