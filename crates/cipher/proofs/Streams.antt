@@ -110,13 +110,13 @@ length-encrypt key c nonce xs n h =
     length-keystream key c nonce (blocks_for (length xs)) ∙ ap (λ k. 64 * k) blocks in
     length-zip2 bit_xor xs (keystream key c nonce (blocks_for (length xs))) (h ∙ sym long) ∙ h
 
--- a text is turned from i on by a part that has w bytes, or what is left of the text if that is less
-pub part_turned : (key : List ℕ) (c : ℕ) (nonce old text part : List ℕ) (i e w : ℕ)
+-- a text is turned from i on by a part that has w bytes, or what is left of the text if that is less; m is the counter of the part's first block
+pub part_turned : (key : List ℕ) (c m : ℕ) (nonce old text part : List ℕ) (i e w : ℕ)
     → text ≡ encrypt key c nonce (take i old) ++ drop i old
-    → part ≡ encrypt key ((c + i / 64) % 2 ^ 32) nonce (take (e - i) (drop i text))
+    → part ≡ encrypt key m nonce (take (e - i) (drop i text)) → m ≡ (c + i / 64) % 2 ^ 32
     → i % 64 ≡ 0 → i ≤ length old → e ≡ min (i + w) (length old)
     → put_mid i (e - i) text part ≡ encrypt key c nonce (take (i + w) old) ++ drop (i + w) old
-part_turned key c nonce old text part i e w ht hp hi hl he =
+part_turned key c m nonce old text part i e w ht hp hm hi hl he =
     let n : ℕ = i / 64 in
     let whole : i ≡ 64 * n = omega (arith, hi) in
     let front : List ℕ = encrypt key c nonce (take i old) in
@@ -126,7 +126,7 @@ part_turned key c nonce old text part i e w ht hp hi hl he =
     let left : length (drop i old) ≡ length old - i = length-drop i old in
     let cut : (take (e - i) (drop i old) ≡ take w (drop i old)) × (drop (e - i) (drop i old) ≡ drop w (drop i old)) = piece (drop i old) w (e - i) (omega (arith, left, he, hl)) in
     let turned : part ≡ encrypt key (c + n) nonce (take w (drop i old)) =
-    hp ∙ encrypt-mod key ((c + n) % 2 ^ 32) (c + n) nonce (take (e - i) (drop i text)) (omega arith)
+    hp ∙ encrypt-mod key m (c + n) nonce (take (e - i) (drop i text)) (omega (arith, hm))
     ∙ ap (λ r. encrypt key (c + n) nonce (take (e - i) r)) back ∙ ap (encrypt key (c + n) nonce) cut.0 in
     ap (λ r. put_mid i (e - i) r part) ht
     ∙ put_next i (e - i) front (drop i old) part long

@@ -1,5 +1,5 @@
 -- Laws of 32-bit words: the turn that the machine does is the turn of the definition, and words as bytes.
-use Rattle.std.proofs.Common.{◌≡◌, ℕ, zero, suc, ◌+◌, ◌-◌, ◌*◌, ◌/◌, ◌%◌, ◌^◌, ◌<◌, ◌≤◌, List, [], ◌∷◌, map, length, get_or, replicate, refl, ap, ◌∙◌, mod-eq_of_lt, arith}
+use Rattle.std.proofs.Common.{◌≡◌, ℕ, zero, suc, ◌+◌, ◌-◌, ◌*◌, ◌/◌, ◌%◌, ◌^◌, ◌<◌, ◌≤◌, List, [], ◌∷◌, ◌++◌, map, length, get_or, replicate, refl, ap, ◌∙◌, mod-eq_of_lt, arith}
 use lib.Bits.{bit_or}
 use lib.Lanes.{zip2}
 use Rattle.std.specs.Simd.{first_chunks}
@@ -13,6 +13,11 @@ turned n x pos small =
     let less : 32 - n < 32 = omega arith in
     let f : (32 - n) % 32 ≡ 32 - n = mod-eq_of_lt less in
     rw (e, f) refl
+
+pub serialized-append : (xs ys : List ℕ) → serialized (xs ++ ys) ≡ serialized xs ++ serialized ys
+unfolding serialized word_bytes
+serialized-append [] ys = refl
+serialized-append (x ∷ xs) ys = ap (λ zs. word_bytes x ++ zs) (serialized-append xs ys)
 
 pub length-serialized : (xs : List ℕ) → length (serialized xs) ≡ 4 * length xs
 unfolding serialized word_bytes
