@@ -37,3 +37,12 @@ pieces_are m (b ∷ bs) = by (m b) (pieces_are m bs)
     by : (c : Bool) → slice_split m bs ≡ front m bs ∷ others m (behind m bs) → cond c ([] ∷ slice_split m bs) (onto_first b (slice_split m bs)) ≡ cond c [] (b ∷ front m bs) ∷ others m (cond c (Some bs) (behind m bs))
     by true rest = refl
     by false rest = ap (onto_first b) rest
+
+-- what stands behind a mark is shorter than the text
+pub behind_shorter : (m : ℕ → Bool) (t u : List ℕ) → behind m t ≡ Some u → length u < length t
+behind_shorter m [] u is = absurd (let z : ◌≡◌ {A = ℕ} 0 1 = cc in omega arith)
+behind_shorter m (b ∷ bs) u is = by (m b) (λ e. behind_shorter m bs u e) is
+  where
+    by : (c : Bool) → (behind m bs ≡ Some u → length u < length bs) → cond c (Some bs) (behind m bs) ≡ Some u → length u < length (b ∷ bs)
+    by true rest found = let same : bs ≡ u = cc in omega (arith, ap length same)
+    by false rest found = omega (arith, rest found)

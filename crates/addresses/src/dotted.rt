@@ -3,7 +3,7 @@ ghost use Rattle.std.specs.Prelude.{◌≡◌, ◌≤◌, IfSome};
 ghost use Rattle.addresses.specs.Dotted.{address_read, prefix_read};
 ghost use Rattle.addresses.specs.Written.{TextsGiveBack};
 
-use crate::marks::cut;
+use crate::marks::cut_where;
 use crate::numbers::read_number;
 
 /// A prefix as it is written: an address, and how many bits of it all addresses begin with.
@@ -38,7 +38,7 @@ pub fn read_prefix(text: &[u8]) -> Option<Prefix>
     ensures value { result ≡ prefix_read text.now }
     ensures within { IfSome result (λ p. p.bits ≤ 32) }
 {
-    let (front, behind) = cut(text, |byte| *byte == b'/');
+    let (front, behind) = cut_where(text, |byte| *byte == b'/');
     let behind = behind?;
     let address = read_address(front)?;
     // `as` loses nothing: it is at most 32.

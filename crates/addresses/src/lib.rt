@@ -7,5 +7,5 @@ mod marks;
 mod numbers;
 
 pub use dotted::{Prefix, read_address, read_prefix, texts_give_back};
-pub use marks::cut;
+pub use marks::{Mark, cut, cut_where};
 pub use numbers::read_number;

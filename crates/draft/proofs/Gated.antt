@@ -1,6 +1,7 @@
--- How many gates a plan has, as one is added. Assumes nothing.
-use Rattle.std.proofs.Common.{◌≡◌, ℕ, ◌+◌, ◌<◌, Bool, true, false, cond, ◌&&◌, leb, eqb, List, Some, None, Ok, Err, Option, Result, refl, sym, ap, ◌∙◌, arith}
+-- How many gates a plan has, as one is added, and their names. Assumes nothing.
+use Rattle.std.proofs.Common.{◌≡◌, ℕ, ◌+◌, ◌<◌, ◌≤◌, Bool, true, false, cond, ◌&&◌, leb, eqb, List, [], ◌∷◌, ◌++◌, take, set, Some, None, Ok, Err, Option, Result, refl, sym, ap, ◌∙◌, subst, arith}
 use Rattle.std.proofs.lemmas.Bool.Decides.{nat_tests}
+use Rattle.std.proofs.lemmas.Grind.{take-set_at}
 use Rattle.std.specs.Option.{ok_or}
 use Rattle.protocol.specs.Limits.{gates_limit, life_least, life_limit, most_least}
 use Rattle.addresses.specs.Dotted.{address_read, prefix_read}
@@ -13,10 +14,14 @@ use Rattle.settings.specs.declared.plans.Plan.{Plan}
 use Rattle.settings.specs.declared.ranges.Range.{Range}
 use Rattle.settings.specs.Faults.{header_fault}
 use Rattle.settings.specs.Plans.{empty_plan, plan_with, range_cause, new_plan, add_unless, add_to}
+use Rattle.settings.specs.Sound.{Padded}
+use Rattle.settings.proofs.Growing.{padded_more}
 use Rattle.draft.specs.declared.drafts.Draft.{Draft}
 use Rattle.draft.specs.declared.faults.TextFault.TheVariants.{NotNext, NotPrefix, NotAddress}
+use Rattle.draft.specs.declared.names.Name.{Name}
 use Rattle.draft.specs.Drafted.{gates_of}
 use Rattle.draft.specs.Drafts.{allowed, begun_by, begun, numbered, next_gate, grown}
+use Rattle.draft.specs.Names.{blank_name}
 use Rattle.draft.specs.Ranges.{range_of}
 use Rattle.draft.proofs.Steps.{done, was_plan}
 
@@ -65,3 +70,14 @@ next_gates w d p is =
         test : (b : Bool) → cond b (Ok q) (Err (NotNext q.gates)) ≡ Ok p → q ≡ p
         test true e = cc
         test false e = absurd (let z : ◌≡◌ {A = ℕ} 0 1 = cc in omega arith)
+
+-- a name at the place behind those of the gates, for one gate more
+module _ (n at gates : ℕ) (x : Name) (names : List Name) (here : at ≡ n) (more : gates ≡ n + 1) (less : n < 32) (pad : Padded n blank_name names) where
+  pub name_kept : (gates ≤ 32) × Padded gates blank_name (set names at x)
+  name_kept = (
+    omega (arith, more, less),
+    subst (λ g. Padded g blank_name (set names at x)) (sym more) (subst (λ k. Padded (n + 1) blank_name (set names k x)) (sym here) (padded_more n blank_name x names less pad)),
+  )
+
+  pub name_put : take gates (set names at x) ≡ take n names ++ x ∷ []
+  name_put = ap (λ k. take gates (set names k x)) here ∙ take-set_at names n gates x more (omega (arith, pad.long, less))

@@ -4,6 +4,7 @@ ghost use Rattle.std.specs.Prelude.{◌≡◌, ◌≤◌, length, slice_get};
 ghost use Rattle.std.specs.Option.{option_map};
 ghost use Rattle.draft.specs.Drafted.{gates_of};
 ghost use Rattle.draft.specs.Drafts.{empty_draft, life_taken, most_taken, begun, next_gate, new_name, grown, gate_taken, setting_taken, line_taken};
+ghost use Rattle.draft.specs.Names.{name_at};
 ghost use Rattle.draft.specs.Ranges.{range_of};
 ghost use Rattle.draft.specs.Words.{words_of};
 
@@ -11,31 +12,43 @@ use crate::faults::TextFault;
 use crate::names::{Name, named};
 use crate::words::Words;
 use addresses::{Prefix, read_address, read_number, read_prefix};
-use arrayvec::ArrayVec;
 use protocol::limits::{MIN_LIFE, MIN_MOST};
 use settings::{Plan, Range};
 use std::array;
 use std::marker::Model;
 
 /// A plan as far as its text was read, with the names of its gates.
-#[derive(Clone, Drop)]
+#[derive(Clone, Copy)]
 pub struct Draft {
     life: Option<u16>,
     most: Option<u32>,
     plan: Option<Plan>,
-    names: ArrayVec<Name, 32>,
+    names: [Name; 32],
 }
 
-// Each gate of the plan has a name.
+// Each gate of the plan has a name, and the places behind them are blank.
 impl Model for Draft {
-    ghost use Rattle.std.specs.Prelude.{◌≡◌, length};
+    ghost use Rattle.std.specs.Prelude.{◌-◌, ◌≤◌, ◌++◌, take, replicate};
+    ghost use Rattle.settings.specs.Sound.{Padded};
     ghost use Rattle.draft.specs.Drafted.{Drafted, gates_of};
+    ghost use Rattle.draft.specs.Names.{blank_name};
 
     ghost Value = { Drafted };
 
-    ghost view = { λ d. record { life = d.life; most = d.most; plan = d.plan; names = d.names.items } };
+    ghost view = { λ d. record { life = d.life; most = d.most; plan = d.plan; names = take (gates_of d.plan) d.names } };
 
-    ghost invariant = { λ d. length d.names.items ≡ gates_of d.plan };
+    ghost invariant = { λ d. (gates_of d.plan ≤ 32) × Padded (gates_of d.plan) blank_name d.names };
+
+    ghost inverse = { λ v. record { life = v.life; most = v.most; plan = v.plan; names = v.names ++ replicate (32 - gates_of v.plan) blank_name } };
+
+    ghost inverse_ok = { λ d h i. record { life = d.life; most = d.most; plan = d.plan; names = h.1.rest i } };
+}
+
+// How many gates were read.
+fn gates_of(plan: Option<Plan>) -> usize
+    ensures { result ≡ gates_of plan }
+{
+    plan.map_or(0, |plan| usize::from(plan.gates()))
 }
 
 // As many addresses as the prefix has, from its own on. Where bits behind the prefix aren't 0 that
@@ -71,7 +84,7 @@ impl Draft {
             life: None,
             most: None,
             plan: None,
-            names: ArrayVec::new(),
+            names: [Name::default(); 32],
         }
     }
 
@@ -82,12 +95,29 @@ impl Draft {
         self.plan
     }
 
-    /// The name of a gate, or none for a number that no gate has. It changes nothing.
-    pub fn name(&self, gate: u8) -> Option<&Name>
+    // The names of the gates, in order.
+    fn names(&self) -> &[Name]
+        ensures value { result.now ≡ self.now.names }
+        ensures each { length self.now.names ≡ gates_of self.now.plan }
+        ensures few { gates_of self.now.plan ≤ 32 }
+    {
+        &self.names[..gates_of(self.plan)]
+    }
+
+    /// The name of a gate; the blank one for a number that no gate has. It changes nothing.
+    pub fn name(&self, gate: u8) -> Name
+        ensures value { result ≡ name_at self.now.names gate }
+        ensures each { length self.now.names ≡ gates_of self.now.plan }
+    {
+        self.find_name(gate).copied().unwrap_or_default()
+    }
+
+    /// The name of a gate, lent, or none for a number that no gate has. It changes nothing.
+    pub fn find_name(&self, gate: u8) -> Option<&Name>
         ensures value { option_map (λ n. n.now) result ≡ slice_get self.now.names gate }
         ensures each { length self.now.names ≡ gates_of self.now.plan }
     {
-        self.names.get(usize::from(gate))
+        self.names().get(usize::from(gate))
     }
 
     // The draft with its life. Beside `take_most`, since each has a field, a limit and a parameter
@@ -152,7 +182,7 @@ impl Draft {
         ensures { result ≡ new_name self.now word.now }
     {
         let name = Name::read(word).ok_or(TextFault::NotName)?;
-        match named(&self.names, word) {
+        match named(self.names(), word) {
             // At most 32 names: `as` loses nothing, and `try_from` is no plainer.
             Some(gate) => Err(TextFault::SameName(gate as u8)),
             None => Ok(name),
@@ -171,10 +201,11 @@ impl Draft {
         ensures { result ≡ gate_taken number.now name.now prefix.now outside.now self }
     {
         let plan = self.next_gate(number)?;
+        let at = usize::from(plan.gates());
         let name = self.new_name(name)?;
         let more = grown(plan, prefix, outside)?;
         self.plan = Some(more);
-        self.names.push(name);
+        self.names[at] = name;
         Ok(self)
     }
 
@@ -195,13 +226,17 @@ impl Draft {
         ensures { result ≡ line_taken (words_of line.now) self }
     {
         let mut words = Words { rest: line };
-        let columns: [_; 5] = array::from_fn(|_| words.next());
-        match columns {
-            [None, ..] => Ok(self),
-            [Some(first), ..] if first.starts_with(b"#") => Ok(self),
-            [Some(name), Some(value), None, ..] => self.take_setting(name, value),
-            [Some(number), Some(name), Some(prefix), Some(outside), None] => self.take_gate(
-                number, name, prefix, outside,
+        let Some(first) = words.next() else {
+            return Ok(self);
+        };
+        if first.starts_with(b"#") {
+            return Ok(self);
+        }
+        let others: [_; 4] = array::from_fn(|_| words.next());
+        match others {
+            [Some(value), None, ..] => self.take_setting(first, value),
+            [Some(name), Some(prefix), Some(outside), None] => self.take_gate(
+                first, name, prefix, outside,
             ),
             _ => Err(TextFault::Columns),
         }

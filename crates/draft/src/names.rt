@@ -1,16 +1,27 @@
 // Names of gates, which are names of files too. Assumes nothing.
 ghost use Rattle.std.specs.Prelude.{◌≡◌, ◌<◌, length, IfSome};
 ghost use Rattle.std.specs.List.{list_all};
-ghost use Rattle.draft.specs.Names.{name_byte, name_read, name_text, named};
+ghost use Rattle.draft.specs.Names.{name_byte, blank_name, name_read, name_text, named};
 
-use arrayvec::ArrayVec;
 use std::fmt;
 
-/// A gate's name: 1 to 32 letters, digits, - and _. The default one, of no bytes, only stands in a
-/// list's places that are free.
-#[derive(Clone, Debug, Default, Drop, PartialEq, Eq)]
+/// A gate's name: 1 to 32 letters, digits, - and _.
+#[derive(Clone, Copy, Debug, PartialEq, Eq)]
 pub struct Name {
-    bytes: ArrayVec<u8, 32>,
+    bytes: [u8; 32],
+    length: u8,
+}
+
+// The blank name, of no bytes, which only stands where none was put.
+impl Default for Name {
+    ghost is_default = { λ n. n ≡ blank_name };
+
+    fn default() -> Self {
+        Name {
+            bytes: [0; 32],
+            length: 0,
+        }
+    }
 }
 
 // Whether a byte is a letter, a digit, - or _.
@@ -29,22 +40,34 @@ fn all_name(word: &[u8]) -> bool
 
 impl Name {
     // The name that a word is, or none.
-    #[tactic(auto, unfolding(crate::specs::Names::name_read))]
     pub(crate) fn read(word: &[u8]) -> Option<Name>
         ensures { result ≡ name_read word.now }
     {
+        if word.len() > 32 {
+            return None;
+        }
         if !all_name(word) {
             return None;
         }
-        let bytes = ArrayVec::try_from(word).ok()?;
-        Some(Name { bytes })
+        let mut bytes = [0u8; 32];
+        bytes[..word.len()].copy_from_slice(word);
+        // `as` loses nothing: it is at most 32.
+        Some(Name {
+            bytes,
+            length: word.len() as u8,
+        })
     }
 
     /// The name's bytes. It changes nothing.
     pub fn text(&self) -> &[u8]
         ensures { result.now ≡ name_text self.now }
     {
-        self.bytes.as_slice()
+        let length = usize::from(self.length);
+        if length < 32 {
+            &self.bytes[..length]
+        } else {
+            &self.bytes
+        }
     }
 }
 

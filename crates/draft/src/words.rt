@@ -3,10 +3,10 @@ ghost use Rattle.std.specs.Prelude.{◌≡◌};
 ghost use Rattle.std.specs.Iterator.{YieldsFirstRef, item_count};
 ghost use Rattle.draft.specs.Words.{words_of};
 
-use addresses::cut;
+use addresses::cut_where;
 
 // The words of a line, one after another. A struct of its own: of `split` and `filter` with their
-// closures nothing joins what five calls of `next` in a row give.
+// closures nothing joins what calls of `next` in a row give.
 #[derive(Drop)]
 pub(crate) struct Words<'a> {
     pub(crate) rest: &'a [u8],
@@ -20,11 +20,12 @@ impl<'a> Iterator for Words<'a> {
     ghost remaining = { item_count (λ s. words_of s.rest.now) };
 
     fn next(&mut self) -> Option<&'a [u8]> {
-        let line = self.rest.trim_ascii_start();
-        if line.is_empty() {
+        // Kept, so that no later call goes over these blanks again.
+        self.rest = self.rest.trim_ascii_start();
+        if self.rest.is_empty() {
             return None;
         }
-        let (word, behind) = cut(line, |byte| byte.is_ascii_whitespace());
+        let (word, behind) = cut_where(self.rest, |byte| byte.is_ascii_whitespace());
         self.rest = behind.unwrap_or(&[]);
         Some(word)
     }
