@@ -1,90 +1,110 @@
--- What chains over places find, a map of an array, and what a change in the first place that passes a test leaves. Assumes nothing.
-use Rattle.std.proofs.Common.{◌≡◌, ℕ, zero, suc, ◌+◌, ◌<◌, Bool, true, false, cond, ltb, List, [], ◌∷◌, map, length, get_or, set, Some, None, Option, is_some, Bor, sym, refl, ap, ◌∙◌, subst, arith}
+-- What searches along places find, a map in place, and what a change in the first place that passes a test leaves. Assumes nothing.
+use Rattle.std.proofs.Common.{◌≡◌, ℕ, zero, suc, ◌+◌, ◌<◌, ◌≤◌, Bool, true, false, cond, ltb, List, [], ◌∷◌, ◌++◌, map, length, get_or, take, drop, set, Some, None, Option, is_some, Bor, sym, refl, ap, ◌∙◌, subst, append-nil, suc-le-suc, length-append, length-drop, length-take, arith}
 use denote.Param.Members.{Mut}
 use Rattle.std.proofs.lemmas.Bool.{false≢true, cond-true, cond-false, ltb-false}
-use Rattle.std.proofs.lemmas.Iterator.{YieldsList}
-use Rattle.std.proofs.lemmas.Iterator.Adapters.{YieldsList-from_flatten, YieldsList-from_once, option_map_id}
-use Rattle.std.proofs.lemmas.Iterator.Consumers.{YieldsList-from_shown}
+use Rattle.std.proofs.lemmas.Iterator.{YieldsList-from_slice}
 use Rattle.std.proofs.lemmas.Iterator.Search.{find_from_yields_List, any_from_yields_List}
-use Rattle.std.proofs.lemmas.List.{same_lists, get_or-map, length-map}
+use Rattle.std.proofs.lemmas.List.{take_all, drop_all, get_or_default, length-map}
+use Rattle.std.proofs.lemmas.List.Edits.{map_over_more}
 use Rattle.std.proofs.lemmas.List.Quantifiers.{position-Some}
 use Rattle.std.proofs.lemmas.List.Sums.{fails_before_first}
-use Rattle.std.specs.Array.{MapsFrom, IsMapOf}
-use Rattle.std.specs.Array.Iter.{array_steps, array_into_iter_items}
 use Rattle.std.specs.Bool.{⊤}
 use Rattle.std.specs.Fn.{Called, CalledAt}
 use Rattle.std.specs.Iterator.{YieldsThen}
-use Rattle.std.specs.Iterator.Adapters.{once_item, once_steps, flatten_source, flatten_front, flatten_back, flatten_done, flatten_steps}
-use Rattle.std.specs.List.{find, flat_map, list_any, FoldsTo, position, position_or_len}
-use Rattle.std.specs.Option.{option_to_list, MatchOption}
-use Rattle.std.specs.declared.array.IntoIter.{IntoIter}
-use Rattle.std.specs.declared.iter.Flatten.{Flatten}
-use Rattle.std.specs.declared.iter.Once.{Once}
+use Rattle.std.specs.List.{find, list_any, FoldsTo, position, position_or_len}
+use Rattle.std.specs.Option.{option_map, unwrap_or, MatchOption}
+use Rattle.std.specs.Slice.Iter.{iter_rest, iter_steps}
+use Rattle.std.specs.declared.slice.Iter.{Iter}
 use Rattle.gateway.specs.Slots.{first_that, replaced, holds}
 
--- the list of what places hold, and the first in it
-find_that : {A : Type 0} (p : A → Bool) (xs : List (Option A)) → find p (flat_map option_to_list xs) ≡ first_that p xs
+-- the first place whose holder passes, and whether there is one
+found : {A : Type 0} (b : Bool) (x : A) (o : Option (Option A)) (r : Option A) → unwrap_or o None ≡ r → unwrap_or (cond b (Some (Some x)) o) None ≡ cond b (Some x) r
+found true x o r e = refl
+found false x o r e = e
+
+find_that : {A : Type 0} (p : A → Bool) (xs : List (Option A)) → unwrap_or (find (holds p) xs) None ≡ first_that p xs
 unfolding first_that
 find_that p [] = refl
 find_that p (None ∷ xs) = find_that p xs
-find_that p (Some x ∷ xs) = ap (cond (p x) (Some x)) (find_that p xs)
+find_that p (Some x ∷ xs) = found (p x) x (find (holds p) xs) (first_that p xs) (find_that p xs)
 
-any_that : {A : Type 0} (p : A → Bool) (xs : List (Option A)) → list_any p (flat_map option_to_list xs) ≡ is_some (first_that p xs)
+any_that : {A : Type 0} (p : A → Bool) (xs : List (Option A)) → list_any (holds p) xs ≡ is_some (first_that p xs)
 unfolding first_that
 any_that p [] = refl
 any_that p (None ∷ xs) = any_that p xs
 any_that p (Some x ∷ xs) = grind (arith, any_that p xs)
 
--- a chain over what the places of an array hold
-abbrev Chain : Type 0 → ℕ → Type 0
-Chain A n = Flatten (IntoIter (Option A) n) (Once A)
+-- A search along places, of which nothing was taken yet.
+module _ {A F : Type 0} {s : Iter (Option A)} (test : A → Bool) (u : Iter (Option A)) (f : F) where
+  -- `find` finds the first whose holder passes
+  pub find_first : {g : Mut F (Bor (Bor (Option A)) × Unit {0}) Bool} (r : Option (Bor (Option A))) (xs : List (Option A)) →
+      (ys : List (Bor (Option A))) × (j : F) × YieldsThen iter_steps s ys r u × FoldsTo (λ p x q. CalledAt g p x false q) f ys j × MatchOption r ⊤ (λ x. (h : F) × CalledAt g j x true h) →
+      iter_rest s ≡ xs → ((x : Bor (Option A)) (b : Bool) (q : F) → CalledAt g f x b q → (q ≡ f) × (b ≡ holds test x.now)) →
+      {t : Option (Bor (Option A))} → r ≡ t → unwrap_or (option_map (λ x. x.now) t) None ≡ first_that test xs
+  find_first r xs ran o calls e =
+      ap (λ z. unwrap_or (option_map (λ x. x.now) z) None) (sym e) ∙ ap (λ z. unwrap_or z None) (find_from_yields_List (holds test) u f r ran (YieldsList-from_slice xs o) calls) ∙ find_that test xs
 
-module _ {A : Type 0} {n : ℕ} (becomes : Option A → Once A → Type 0) where
-  abbrev steps : Chain A n → Option A → Chain A n → Type 0
-  steps = flatten_steps array_steps becomes once_steps
-
-  -- nothing was taken from it yet
-  pub record Over (s : Chain A n) (xs : List (Option A)) : Type 0 where
-    pub holder : (o : Option A) (j : Once A) → becomes o j → once_item j ≡ o
-    pub source : array_into_iter_items (flatten_source s) ≡ xs
-    pub front : flatten_front s ≡ None
-    pub back : flatten_back s ≡ None
-    pub more : flatten_done s ≡ false
-
-  road : (s : Chain A n) (xs : List (Option A)) → Over s xs → YieldsList steps (λ x. x) s (flat_map option_to_list (array_into_iter_items (flatten_source s)))
-  road s xs o =
-      YieldsList-from_flatten becomes _ (λ x. x) option_to_list (λ h j b. YieldsList-from_once h (o.holder h j b))
-      (YieldsList-from_shown array_steps (λ x. x) array_into_iter_items (λ s t e. e.0) (λ s x t e. e) (flatten_source s)) o.front o.back o.more
-
-  -- `find` along it finds the first that passes
-  pub find_first : {F : Type 0} {s : Chain A n} {g : Mut F (Bor A × Unit {0}) Bool} (test : A → Bool) (u : Chain A n) (f : F) (r : Option A) (xs : List (Option A)) →
-      (ys : List A) × (j : F) × YieldsThen steps s ys r u × FoldsTo (λ p x q. CalledAt g p x false q) f ys j × MatchOption r ⊤ (λ x. (h : F) × CalledAt g j x true h) →
-      Over s xs → ((x : A) (b : Bool) (q : F) → CalledAt g f x b q → (q ≡ f) × (b ≡ test x)) → r ≡ first_that test xs
-  find_first test u f r xs ran o calls =
-      sym (option_map_id r) ∙ find_from_yields_List test u f r ran (road _ xs o) calls ∙ find_that test _ ∙ ap (first_that test) o.source
-
-  -- `any` says whether one passes
-  pub any_first : {F : Type 0} {s : Chain A n} {g : Mut F (A × Unit {0}) Bool} (test : A → Bool) (u : Chain A n) (f : F) (r : Bool) (xs : List (Option A)) →
-      (ys : List A) × (o : Option A) × (j : F) × YieldsThen steps s ys o u × FoldsTo (λ p x q. Called g p (x, tt) false q) f ys j ×
+  -- `any` says whether one's holder passes
+  pub any_first : {g : Mut F (Bor (Option A) × Unit {0}) Bool} (r : Bool) (xs : List (Option A)) →
+      (ys : List (Bor (Option A))) × (o : Option (Bor (Option A))) × (j : F) × YieldsThen iter_steps s ys o u × FoldsTo (λ p x q. Called g p (x, tt) false q) f ys j ×
       MatchOption o (r ≡ false) (λ x. (r ≡ true) × ((h : F) × Called g j (x, tt) true h)) →
-      Over s xs → ((x : A) (b : Bool) (q : F) → Called g f (x, tt) b q → (q ≡ f) × (b ≡ test x)) → r ≡ is_some (first_that test xs)
-  any_first test u f r xs ran o calls =
-      any_from_yields_List test u f r ran (road _ xs o) calls ∙ any_that test _ ∙ ap (λ ys. is_some (first_that test ys)) o.source
+      iter_rest s ≡ xs → ((x : Bor (Option A)) (b : Bool) (q : F) → Called g f (x, tt) b q → (q ≡ f) × (b ≡ holds test x.now)) → r ≡ is_some (first_that test xs)
+  any_first r xs ran o calls = any_from_yields_List (holds test) u f r ran (YieldsList-from_slice xs o) calls ∙ any_that test xs
 
--- A map of an array, at each place of it and as a list.
-module _ {A B F : Type 0} {g : Mut F (A × Unit {0}) B} (h : A → B) (f : F) (xs : List A) (ys : List B)
-    (calls : (x : A) (y : B) (q : F) → Called g f (x, tt) y q → (q ≡ f) × (y ≡ h x)) where
-  mapped_at : (n i k j : ℕ) → MapsFrom g f xs ys i n → k < n → j ≡ i + k → (x : A) × ((d : A) → get_or xs j d ≡ x) × ((e : B) → get_or ys j e ≡ h x)
-  mapped_at zero i k j m l s = absurd (omega arith)
-  mapped_at (suc n) i zero j (q, x, y, p, r, c, m) l s =
-      let same : i ≡ j = omega arith in (x, λ d. ap (λ z. get_or xs z d) (sym same) ∙ p.1 d, λ e. ap (λ z. get_or ys z e) (sym same) ∙ r.1 e ∙ (calls x y q c).1)
-  mapped_at (suc n) i (suc k) j (q, x, y, p, r, c, m) l s =
-      mapped_at n (i + 1) k j (subst (λ t. MapsFrom g t xs ys (i + 1) n) (calls x y q c).0 m) (omega arith) (omega arith)
+-- What a loop over places knows of those that it has passed, and what it finds.
 
-  pub map_places : (n : ℕ) → IsMapOf g f xs ys n → length xs ≡ n → ys ≡ map h xs
-  map_places n m l =
-      same_lists ys (map h xs) (m.long ∙ sym l ∙ sym (length-map xs h))
-      (λ k e j. let p = mapped_at n 0 k k m.each (omega (arith, m.long)) (omega arith) in p.2 e ∙ sym (get_or-map h xs k p.0 e (omega (arith, m.long)) ∙ ap h (p.1 p.0)))
+-- what stands in a place does not pass a test
+abbrev pub Fails : {A : Type 0} → (A → Bool) → Option A → Type 0
+Fails p None = Unit {0}
+Fails p (Some x) = p x ≡ false
+
+-- nothing in the first n places passes a test
+abbrev pub Passed : {A : Type 0} → (A → Bool) → List (Option A) → ℕ → Type 0
+Passed p xs n = (k : ℕ) → k < n → Fails p (get_or xs k None)
+
+fails_none : {A : Type 0} (p : A → Bool) (o : Option A) → o ≡ None → Fails p o
+fails_none p o e = subst (Fails p) (sym e) tt
+
+pub fails_some : {A : Type 0} (p : A → Bool) (o : Option A) (x : A) → o ≡ Some x → p x ≡ false → Fails p o
+fails_some p o x e f = subst (Fails p) (sym e) f
+
+-- in an empty place nothing passes
+pub fails_empty : {A : Type 0} (p : A → Bool) (o : Option A) → ((x : A) → o ≡ Some x → ⊥) → Fails p o
+fails_empty p None h = tt
+fails_empty p (Some x) h = absurd (h x refl)
+
+module _ {A : Type 0} (p : A → Bool) where
+  not_some : (x : A) → ◌≡◌ {A = Option A} None (Some x) → ⊥
+  not_some x e = let z : ◌≡◌ {A = ℕ} 0 1 = cc in omega arith
+
+  later : (x : Option A) (xs : List (Option A)) (n : ℕ) → Passed p (x ∷ xs) (suc n) → Passed p xs n
+  later x xs n h k l = h (suc k) (suc-le-suc l)
+
+  pub first-at : (xs : List (Option A)) (i : ℕ) (x : A) → Passed p xs i → get_or xs i None ≡ Some x → p x ≡ true → Some x ≡ first_that p xs
+  unfolding first_that
+  first-at [] zero x h e t = absurd (not_some x e)
+  first-at [] (suc i) x h e t = absurd (not_some x e)
+  first-at (None ∷ xs) zero x h e t = absurd (not_some x e)
+  first-at (None ∷ xs) (suc i) x h e t = first-at xs i x (later None xs i h) e t
+  first-at (Some y ∷ xs) zero x h e t = let s : y ≡ x = cc in sym (cond-true (p y) (Some y) (first_that p xs) (ap p s ∙ t) ∙ e)
+  first-at (Some y ∷ xs) (suc i) x h e t =
+      first-at xs i x (later (Some y) xs i h) e t ∙ sym (cond-false (p y) (Some y) (first_that p xs) (h 0 (omega arith)))
+
+  pub first-all : (xs : List (Option A)) → Passed p xs (length xs) → None ≡ first_that p xs
+  unfolding first_that
+  first-all [] h = refl
+  first-all (None ∷ xs) h = first-all xs (later None xs (length xs) h)
+  first-all (Some y ∷ xs) h = first-all xs (later (Some y) xs (length xs) h) ∙ sym (cond-false (p y) (Some y) (first_that p xs) (h 0 (omega arith)))
+
+-- a map in place, one place further, where d is read past the end; and at its end
+pub mapped_more : {X : Type 0} (f : X → X) (d : X) (xs ys : List X) (i : ℕ) → i < length xs → ys ≡ map f (take i xs) ++ drop i xs →
+    set ys i (f (get_or ys i d)) ≡ map f (take (i + 1) xs) ++ drop (i + 1) xs
+mapped_more f d xs ys i h e =
+    let l : length ys ≡ length (map f (take i xs) ++ drop i xs) = ap length e in
+    map_over_more f xs ys i (get_or ys i d) h e (get_or_default ys i d (get_or ys i d) (omega (arith, simp (length-append, length-map, length-take, length-drop) at l)))
+
+pub mapped_all : {X : Type 0} (f : X → X) (xs ys : List X) (i : ℕ) → length xs ≤ i → ys ≡ map f (take i xs) ++ drop i xs → ys ≡ map f xs
+mapped_all f xs ys i h e = e ∙ (ap (λ zs. map f zs ++ drop i xs) (take_all i xs h) ∙ (ap (λ zs. map f xs ++ zs) (drop_all i xs h) ∙ append-nil (map f xs)))
 
 -- The place of the first that passes a test, and that one replaced.
 module _ {A : Type 0} (p : A → Bool) (y : A) where

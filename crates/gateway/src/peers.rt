@@ -41,24 +41,28 @@ impl Peer {
     }
 
     /// The talk that these two tags name.
-    // One chain, as in `for_sending`, with a test of its own: a function that takes the test is no shorter to call.
     pub(crate) fn talk_named(self, tags: Tags) -> Option<Talk>
         ensures { result ≡ talk_named tags.mine tags.theirs self }
     {
-        self.talks
-            .into_iter()
-            .flatten()
-            .find(|talk| talk.tags == tags)
+        *self
+            .talks
+            .iter()
+            .find(|slot| slot.is_some_and(|talk| talk.tags == tags))?
     }
 
     /// The latest talk that can be used to send.
+    // A loop: with a chain that lends, as in `talk_named`, a put copies the talks once more.
     pub(crate) fn for_sending(self, now: u64, terms: Terms) -> Option<Talk>
         ensures { result ≡ for_sending now terms.life terms.most self }
     {
-        self.talks
-            .into_iter()
-            .flatten()
-            .find(|talk| talk.may_send(now, terms))
+        for slot in self.talks {
+            if let Some(talk) = slot {
+                if talk.may_send(now, terms) {
+                    return Some(talk);
+                }
+            }
+        }
+        None
     }
 
     /// The place of the talk with this own tag.
@@ -99,26 +103,28 @@ impl Peer {
         ensures { result ≡ is_asked now tag self }
     {
         self.waits
-            .into_iter()
-            .flatten()
-            .any(|wait| wait.can_answer(now, tag))
+            .iter()
+            .any(|slot| slot.is_some_and(|wait| wait.can_answer(now, tag)))
     }
 
     /// Whether a hello of this tick waits for its reply.
     pub(crate) fn is_greeted(self, now: u64) -> bool
         ensures { result ≡ is_greeted now self }
     {
-        self.waits.into_iter().flatten().any(|wait| wait.at == now)
+        self.waits
+            .iter()
+            .any(|slot| slot.is_some_and(|wait| wait.at == now))
     }
 
     /// The memory in which no hello with this tag waits any longer.
     pub(crate) fn answered(self, tag: u64) -> Peer
         ensures { result ≡ answered tag self }
     {
-        Peer {
-            waits: self.waits.map(|slot| slot.filter(|wait| wait.tag != tag)),
-            ..self
+        let mut waits = self.waits;
+        for slot in waits.iter_mut() {
+            *slot = slot.filter(|wait| wait.tag != tag);
         }
+        Peer { waits, ..self }
     }
 
     /// The memory in which a hello waits that was said in this tick.

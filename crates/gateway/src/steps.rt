@@ -118,10 +118,12 @@ impl Gateway {
         if place.tags.has_zero() {
             return Err(Refusal::ZeroTag);
         }
-        let talk = peer
+        let Some(talk) = peer
             .talk_named(place.tags.swapped())
             .filter(|talk| talk.lives(self.now, self.terms.life))
-            .ok_or(Refusal::NoTalk)?;
+        else {
+            return Err(Refusal::NoTalk);
+        };
         match talk.window.look(place.number) {
             Verdict::Fresh => Ok(talk),
             Verdict::TooOld => Err(Refusal::BelowWindow),
@@ -236,7 +238,9 @@ impl Gateway {
         ensures { self.new ≡ restarted self.old }
     {
         self.fell = self.now;
-        self.peers = self.peers.map(|peer| peer.forgotten());
+        for peer in self.peers.iter_mut() {
+            *peer = peer.forgotten();
+        }
     }
 
     /// A tick passes. The clock stays at the largest number.
