@@ -28,7 +28,7 @@ use Rattle.gateway.specs.Peers.{forgotten, can_answer, is_asked, is_greeted, ask
 use Rattle.gateway.specs.Talks.{sent_one}
 use Rattle.gateway.specs.Steps.{blank, peer_at, storing, is_peer, answer, leaves, put_fault, packet_in, sent_after, put, put_after, may_greet, greet, greet_after, sending}
 use Rattle.refinement.specs.Relation.{rules_of, with_peer, SameTalk, Vacant, Agrees, SamePeer, Stands}
-use Rattle.refinement.specs.Calls.{Ticks, Says, Sends, Falls, nothing, sent_as, put_as, gone_out, drawn_as, does, doing}
+use Rattle.refinement.specs.Calls.{Ticks, Says, Sends, Falls, nothing, sent_as, put_as, gone_out, drawn_as, all_known, does, doing}
 use Rattle.refinement.proofs.Sessions.{FoundBoth, sending_both, found_same, peer_in}
 use Rattle.refinement.proofs.Asking.{any_set}
 use Rattle.refinement.proofs.Standing.{peer_bound, stands_peer, stands-changed}
@@ -107,14 +107,14 @@ module _ (k life most : ℕ) (fits : most < 2 ^ 32) (owner : ℕ → ℕ) where
       }
 
   pub ticks_so : (es : List Ev) (a : ℕ) (s : Gateway) → Stands k life most a s ((world r es).now a) ((world r es).gates a) →
-      Follows (Stands k life most a) a (world r es) (world r (doing a Ticks s ++ es)) (does owner a Ticks s)
+      Follows (Stands k life most a) a (world r es) (world r (doing a Ticks s ++ es)) (does (all_known owner) a Ticks s)
   unfolding world
   ticks_so es a s st = go (ltb s.now (2 ^ 64 - 1)) refl
     where
       w : World
       w = world r es
 
-      go : (b : Bool) → ltb s.now (2 ^ 64 - 1) ≡ b → Follows (Stands k life most a) a w (world r (cond b (Tick a ∷ []) [] ++ es)) (does owner a Ticks s)
+      go : (b : Bool) → ltb s.now (2 ^ 64 - 1) ≡ b → Follows (Stands k life most a) a w (world r (cond b (Tick a ∷ []) [] ++ es)) (does (all_known owner) a Ticks s)
       go true h =
           record {
             stands =
@@ -163,7 +163,7 @@ module _ (k life most : ℕ) (fits : most < 2 ^ 32) (owner : ℕ → ℕ) where
           }
 
   pub falls_so : (es : List Ev) (a : ℕ) (s : Gateway) → Stands k life most a s ((world r es).now a) ((world r es).gates a) →
-      Follows (Stands k life most a) a (world r es) (world r (doing a Falls s ++ es)) (does owner a Falls s)
+      Follows (Stands k life most a) a (world r es) (world r (doing a Falls s ++ es)) (does (all_known owner) a Falls s)
   unfolding world with_peer Agrees Vacant waits_for first_that
   falls_so es a s st =
       record {
@@ -288,7 +288,7 @@ module _ (k life most : ℕ) (fits : most < 2 ^ 32) (owner : ℕ → ℕ) where
           there ne = old.placed i x (sym (get_or-set_other p.waits (s.now % 6) i (Some y) None ne) ∙ h)
 
   pub says_so : (es : List Ev) (a e t : ℕ) (s : Gateway) → Stands k life most a s ((world r es).now a) ((world r es).gates a) → AllNew (t ∷ []) (world r es) →
-      Follows (Stands k life most a) a (world r es) (world r (doing a (Says e t) s ++ es)) (does owner a (Says e t) s)
+      Follows (Stands k life most a) a (world r es) (world r (doing a (Says e t) s ++ es)) (does (all_known owner) a (Says e t) s)
   unfolding world AllNew
   says_so es a e t s st new = go (may_greet e t s) refl
     where
@@ -348,7 +348,7 @@ module _ (k life most : ℕ) (fits : most < 2 ^ 32) (owner : ℕ → ℕ) where
       }
 
   pub sends_so : (es : List Ev) (a : ℕ) (x : Inner) (s : Gateway) → Stands k life most a s ((world r es).now a) ((world r es).gates a) →
-      Follows (Stands k life most a) a (world r es) (world r (doing a (Sends x) s ++ es)) (does owner a (Sends x) s)
+      Follows (Stands k life most a) a (world r es) (world r (doing a (Sends x) s ++ es)) (does (all_known owner) a (Sends x) s)
   unfolding world
   sends_so es a x s st = by_source (eqb source s.own) refl
     where

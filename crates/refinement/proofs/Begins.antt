@@ -13,6 +13,7 @@ use Rattle.refinement.specs.Relation.{Stands}
 use Rattle.refinement.specs.Sea.{Books, no_gate, happens, plays, new_gates, at_gate, backwards, words_of, puts_of, outs_of, Plays, Begun}
 use Rattle.refinement.proofs.Followed.{start_stands}
 use Rattle.refinement.proofs.Playing.{all-plays}
+use Rattle.refinement.proofs.Carrying.{played_carried}
 
 plays-append : (owners : List ℕ) (xs ys : List Event) (b : Books) → plays owners (xs ++ ys) b ≡ plays owners ys (plays owners xs b)
 unfolding plays
@@ -59,4 +60,4 @@ begun k life most gates net put out g n p o owner =
     }
 
 -- for the loop that plays the events
-pub ruleset playing = (plays-none, plays_next, played-keeps)
+pub ruleset playing = (plays-none, plays_next, played-keeps, played_carried)

@@ -6,6 +6,7 @@ pub mod Taking
 pub mod Owning
 pub mod Followed
 pub mod Playing
+pub mod Carrying
 pub mod Begins
 pub mod Asks
 pub mod Opening

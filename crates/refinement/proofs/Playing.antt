@@ -31,12 +31,12 @@ use Rattle.refinement.specs.declared.state.EventKind.{EventKind}
 use Rattle.refinement.specs.declared.state.EventKind.TheVariants.{Tick, Restart, Greet, Put, Bring}
 use Rattle.refinement.specs.declared.state.Outcome.{Outcome}
 use Rattle.refinement.specs.Relation.{rules_of, Stands}
-use Rattle.refinement.specs.Calls.{Call, Ticks, Says, Sends, Falls, offers, as_code, drawn_of, hearing, does, doing, gone_out, sent_as, put_as, drawn_as, nothing, sent_for, out_for, drew_for, drops_oldest, drops_for}
+use Rattle.refinement.specs.Calls.{Call, Ticks, Says, Sends, Falls, offers, Knows, as_code, drawn_of, hearing, does, doing, gone_out, sent_as, put_as, drawn_as, nothing, sent_for, out_for, drew_for, drops_oldest, drops_for}
 use Rattle.refinement.specs.Sea.{owner_in, owner_at, inner_of, inner_in, sealed_of, opened, Books, letter_of, silent, brought_out, list_of, no_gate, entered, letter_adds, after_letter, entered_if, happens, plays, tag_of, tags_of, backwards, words_of, puts_of, outs_of, Reached, Kept, Plays}
-use Rattle.refinement.proofs.Asked.{ticks_so, falls_so, says_so, sends_so}
+use Rattle.refinement.proofs.Asked.{ticks_so, falls_so, says_so}
 use Rattle.refinement.proofs.Taking.{owned_ok, talk_tests, hello-none}
-use Rattle.refinement.proofs.Followed.{hears_so}
-use Rattle.refinement.proofs.Owning.{reads_took, reads_after, put_same, put_after_same, numbers_at, reads_opened}
+use Rattle.refinement.proofs.Followed.{hears_known, sends_known}
+use Rattle.refinement.proofs.Owning.{table_knows}
 
 backwards-append : {A : Type 0} (f : Letter → List A) (xs ys : List Letter) → backwards f (xs ++ ys) ≡ backwards f ys ++ backwards f xs
 unfolding backwards
@@ -211,16 +211,10 @@ module _ (k life most : ℕ) (few : k ≤ 32) (fits : most < 2 ^ 32) (owners : L
   unfolding backwards
   said o s t = record { after_so = refl; sent_so = sent_matches None o; put_so = refl; out_so = refl }
 
-  putted : (p : Parcel) (o u : Option Word) (s v : Gateway) → o ≡ u → s ≡ v →
-      Matches (record { after = s; sent = sent_as (inner_of p) o; put = put_as (inner_of p) o; out = []; drew = [] }) v (record { sent = letter_of (Some p) u; put = letter_of (Some p) u; out = None })
+  putted : (p : Parcel) (o : Option Word) (s : Gateway) →
+      Matches (record { after = s; sent = sent_as (inner_of p) o; put = put_as (inner_of p) o; out = []; drew = [] }) s (record { sent = letter_of (Some p) o; put = letter_of (Some p) o; out = None })
   unfolding backwards
-  putted p o u s v e f =
-      record {
-        after_so = f;
-        sent_so = ap (sent_as (inner_of p)) e ∙ sent_matches (Some p) u;
-        put_so = ap (put_as (inner_of p)) e ∙ put_matches (Some p) u;
-        out_so = refl;
-      }
+  putted p o s = record { after_so = refl; sent_so = sent_matches (Some p) o; put_so = put_matches (Some p) o; out_so = refl }
 
   greet-drew : (t : ℕ) (o : Option Word) → Drew (drawn_as t o) (t ∷ [])
   greet-drew t None = inl refl
@@ -244,7 +238,7 @@ module _ (k life most : ℕ) (few : k ≤ 32) (fits : most < 2 ^ 32) (owners : L
   brought-drew t ts (Err f) h = inl refl
 
   -- what comes out was for this gate
-  out_for_lem : (x : Sealed) (t : ℕ) (s : Gateway) → took (as_code (owner_in owners) x) t s ≡ Ok Out → for_of x ≡ s.own
+  out_for_lem : (x : Sealed) (t : ℕ) (s : Gateway) → took (as_code (owner_at owners) x) t s ≡ Ok Out → for_of x ≡ s.own
   out_for_lem (HelloWord a f tag n) t s e = absurd (go (hello_fault a f tag n t s) e)
     where
       go : (o : Option Refusal) → answer o (Answer (Reply s.own a t tag)) ≡ Ok Out → ⊥
@@ -255,9 +249,9 @@ module _ (k life most : ℕ) (few : k ≤ 32) (fits : most < 2 ^ 32) (owners : L
       go : (o : Option Refusal) → answer o Sure ≡ Ok Out → ⊥
       go None h = cc
       go (Some f') h = cc
-  out_for_lem (PacketWord a f m h n y) t s e = go (packet_talk a f m h n (Some (owner_in owners y.from)) (Some (owner_in owners y.to)) s) refl e
+  out_for_lem (PacketWord a f m h n y) t s e = go (packet_talk a f m h n (owner_at owners y.from) (owner_at owners y.to) s) refl e
     where
-      go : (v : Result Talk Refusal) → packet_talk a f m h n (Some (owner_in owners y.from)) (Some (owner_in owners y.to)) s ≡ v → answered-as Out v ≡ Ok Out → f ≡ s.own
+      go : (v : Result Talk Refusal) → packet_talk a f m h n (owner_at owners y.from) (owner_at owners y.to) s ≡ v → answered-as Out v ≡ Ok Out → f ≡ s.own
       go (Err f') q z = absurd (cc)
       go (Ok u) q z =
           let o = (owned_ok k life most few (owner_in owners) _ (found_talk a f m h n s) u q).1 in
@@ -270,7 +264,7 @@ module _ (k life most : ℕ) (few : k ≤ 32) (fits : most < 2 ^ 32) (owners : L
       go (Ok u) z = cc
 
   -- a reply is made only under a tag
-  reply-tag : (x : Sealed) (t : ℕ) (s : Gateway) (w : Word) → took (as_code (owner_in owners) x) t s ≡ Ok (Answer w) → 0 < t
+  reply-tag : (x : Sealed) (t : ℕ) (s : Gateway) (w : Word) → took (as_code (owner_at owners) x) t s ≡ Ok (Answer w) → 0 < t
   reply-tag (HelloWord a f tag n) t s w e = go (hello_fault a f tag n t s) refl e
     where
       go : (o : Option Refusal) → hello_fault a f tag n t s ≡ o → answer o (Answer (Reply s.own a t tag)) ≡ Ok (Answer w) → 0 < t
@@ -284,7 +278,7 @@ module _ (k life most : ℕ) (few : k ≤ 32) (fits : most < 2 ^ 32) (owners : L
       go : (o : Option Refusal) → answer o Sure ≡ Ok (Answer w) → ⊥
       go None h = cc
       go (Some f') h = cc
-  reply-tag (PacketWord a f m h n y) t s w e = absurd (go (packet_talk a f m h n (Some (owner_in owners y.from)) (Some (owner_in owners y.to)) s) e)
+  reply-tag (PacketWord a f m h n y) t s w e = absurd (go (packet_talk a f m h n (owner_at owners y.from) (owner_at owners y.to) s) e)
     where
       go : (v : Result Talk Refusal) → answered-as Out v ≡ Ok (Answer w) → ⊥
       go (Err f') z = cc
@@ -314,17 +308,17 @@ module _ (k life most : ℕ) (few : k ≤ 32) (fits : most < 2 ^ 32) (owners : L
   -- a letter of the net is brought
   brought : (b : Books) (es : List Ev) (rest : List ℕ) (g t : ℕ) (l : Letter) → Reached k life most (owner_in owners) b es → AllNew (offered t ++ rest) (world r es) → In l b.net →
       g < k → Stands k life most g (get_or b.gates g no_gate) ((world r es).now g) ((world r es).gates g) →
-      Act g (took_after (as_code (owner_in owners) (sealed_of l)) t (get_or b.gates g no_gate)) (brought_out l (took (as_code (owner_in owners) (sealed_of l)) t (get_or b.gates g no_gate))) (offered t) es
+      Act g (took_after (as_code (owner_at owners) (sealed_of l)) t (get_or b.gates g no_gate)) (brought_out l (took (as_code (owner_at owners) (sealed_of l)) t (get_or b.gates g no_gate))) (offered t) es
   brought b es rest g t l h n there' less st = (
-    hearing (owner_in owners) g x ts s at.0,
+    hearing (owner_at owners) g x ts s at.0,
     did t,
-    own_more g (Brings g at.0 (drawn_of ts)) (drops_for g (peer_at (by_of x) s) (took (as_code (owner_in owners) x) (drawn_of ts) s)) refl (hearing_own g (peer_at (by_of x) s) (took (as_code (owner_in owners) x) (drawn_of ts) s)),
+    own_more g (Brings g at.0 (drawn_of ts)) (drops_for g (peer_at (by_of x) s) (took (as_code (owner_at owners) x) (drawn_of ts) s)) refl (hearing_own g (peer_at (by_of x) s) (took (as_code (owner_at owners) x) (drawn_of ts) s)),
     subst
-        (λ d. Follows (Stands k life most g) g (world r es) (world r (hearing (owner_in owners) g x ts s at.0 ++ es)) d)
+        (λ d. Follows (Stands k life most g) g (world r es) (world r (hearing (owner_at owners) g x ts s at.0 ++ es)) d)
         (λ j. did (offered_is t j))
-        (hears_so k life most few (owner_in owners) es g x ts s at.0 h.below st (subst (At at.0 x) (sym h.net_so) at.1) (front-new (ltb 0 t) t rest (world r es) n)),
-    brought_matches g t l (took_after (as_code (owner_in owners) x) t s) (took (as_code (owner_in owners) x) t s) (λ e. out_for_lem x t s e ∙ st.own_so),
-    brought-drew t ts (took (as_code (owner_in owners) x) t s) (λ w e. cond-true (ltb 0 t) (t ∷ []) [] (lt-ltb 0 t (reply-tag x t s w e))),
+        (hears_known k life most few (owner_at owners) (owner_in owners) (table_knows k owners few) es g x ts s at.0 less h.below st (subst (At at.0 x) (sym h.net_so) at.1) (front-new (ltb 0 t) t rest (world r es) n)),
+    brought_matches g t l (took_after (as_code (owner_at owners) x) t s) (took (as_code (owner_at owners) x) t s) (λ e. out_for_lem x t s e ∙ st.own_so),
+    brought-drew t ts (took (as_code (owner_at owners) x) t s) (λ w e. cond-true (ltb 0 t) (t ∷ []) [] (lt-ltb 0 t (reply-tag x t s w e))),
   )
     where
       x : Sealed
@@ -342,11 +336,11 @@ module _ (k life most : ℕ) (few : k ≤ 32) (fits : most < 2 ^ 32) (owners : L
       did : ℕ → Did Gateway
       did u =
           record {
-            after = took_after (as_code (owner_in owners) x) u s;
-            sent = sent_for (took (as_code (owner_in owners) x) u s);
+            after = took_after (as_code (owner_at owners) x) u s;
+            sent = sent_for (took (as_code (owner_at owners) x) u s);
             put = [];
-            out = out_for g x (took (as_code (owner_in owners) x) u s);
-            drew = drew_for u (took (as_code (owner_in owners) x) u s);
+            out = out_for g x (took (as_code (owner_at owners) x) u s);
+            drew = drew_for u (took (as_code (owner_at owners) x) u s);
           }
 
   -- the letter at a place of the net is in it
@@ -354,10 +348,6 @@ module _ (k life most : ℕ) (few : k ≤ 32) (fits : most < 2 ^ 32) (owners : L
   in-place [] i l e = absurd (cc)
   in-place (x ∷ xs) zero l e = Memᴰ.head (cc)
   in-place (x ∷ xs) (suc i) l e = Memᴰ.tail (in-place xs i l e)
-
-  -- a gate of the books has a number that is a gate's
-  own_few : (g : ℕ) (s : Gateway) → g < k → {now : ℕ} {f : worlds.Gate} → Stands k life most g s now f → s.own < 32
-  own_few g s less st = let q = st.own_so in omega arith
 
   -- a letter is brought, if it is there
   brings : (b : Books) (es : List Ev) (rest : List ℕ) (g i : ℕ) (tag : Option ℕ) → Reached k life most (owner_in owners) b es → AllNew (tag_of (Bring i tag) ++ rest) (world r es) →
@@ -374,15 +364,7 @@ module _ (k life most : ℕ) (few : k ≤ 32) (fits : most < 2 ^ 32) (owners : L
       go None e = cond_both (ltb g (length b.gates)) b b (λ z. Went z es rest) (λ _. stayed b es (offered t) rest h n) (λ _. stayed b es (offered t) rest h n)
       go (Some l) e =
           there g (took_after (opened owners l) t s) (brought_out l (took (opened owners l) t s)) (offered t) b es rest h n
-          (λ less st.
-          let reads = reads_opened owners l s (own_few g s less st) in
-          subst
-          (λ z. Act g z (brought_out l (took (opened owners l) t s)) (offered t) es)
-          (reads_after s (owner_in owners) (sealed_of l) (opened owners l) t reads)
-          (subst
-          (λ z. Act g (took_after (as_code (owner_in owners) (sealed_of l)) t s) (brought_out l z) (offered t) es)
-          (reads_took s (owner_in owners) (sealed_of l) (opened owners l) t reads)
-          (brought b es rest g t l h n (in-place b.net i l e) less st)))
+          (λ less st. brought b es rest g t l h n (in-place b.net i l e) less st)
 
   -- whatever happens
   went : (g : ℕ) (e : EventKind) (b : Books) (es : List Ev) (rest : List ℕ) → Reached k life most (owner_in owners) b es → AllNew (tag_of e ++ rest) (world r es) →
@@ -400,7 +382,7 @@ module _ (k life most : ℕ) (few : k ≤ 32) (fits : most < 2 ^ 32) (owners : L
       h
       n
       (λ less st.
-      (doing g Ticks s, does (owner_in owners) g Ticks s, own-cond g (ltb s.now (2 ^ 64 - 1)) (worlds.Tick g ∷ []) (λ e. own-one g (worlds.Tick g) refl), ticks_so k life most fits (owner_in owners) es g s st, quiet_matches (ticked s), inl refl))
+      (doing g Ticks s, does (owner_at owners) g Ticks s, own-cond g (ltb s.now (2 ^ 64 - 1)) (worlds.Tick g ∷ []) (λ e. own-one g (worlds.Tick g) refl), ticks_so k life most fits (owner_in owners) es g s st, quiet_matches (ticked s), inl refl))
   went g Restart b es rest h n =
       let s = get_or b.gates g no_gate in
       there
@@ -414,7 +396,7 @@ module _ (k life most : ℕ) (few : k ≤ 32) (fits : most < 2 ^ 32) (owners : L
       h
       n
       (λ less st.
-      (doing g Falls s, does (owner_in owners) g Falls s, own-one g (worlds.Restarts g) refl, falls_so k life most fits (owner_in owners) es g s st, quiet_matches (restarted s), inl refl))
+      (doing g Falls s, does (owner_at owners) g Falls s, own-one g (worlds.Restarts g) refl, falls_so k life most fits (owner_in owners) es g s st, quiet_matches (restarted s), inl refl))
   went g (Greet e t) b es rest h n =
       let s = get_or b.gates g no_gate in
       there
@@ -429,7 +411,7 @@ module _ (k life most : ℕ) (few : k ≤ 32) (fits : most < 2 ^ 32) (owners : L
       n
       (λ less st. (
         doing g (Says e t) s,
-        does (owner_in owners) g (Says e t) s,
+        does (owner_at owners) g (Says e t) s,
         own-cond g (may_greet e t s) (worlds.Greets g e t ∷ []) (λ m. own-one g (worlds.Greets g e t) (refl, greeted-below e t s st.gates_so m)),
         says_so k life most fits (owner_in owners) es g e t s st (front-new true t rest (world r es) n),
         said (greet e t s) (greet_after e t s) t,
@@ -448,16 +430,12 @@ module _ (k life most : ℕ) (few : k ≤ 32) (fits : most < 2 ^ 32) (owners : L
       rest
       h
       n
-      (λ less st.
-      let from = numbers_at owners p.from s (own_few g s less st) in
-      let to = numbers_at owners p.to s (own_few g s less st) in (
+      (λ less st. (
         doing g (Sends (inner_of p)) s,
-        does (owner_in owners) g (Sends (inner_of p)) s,
+        does (owner_at owners) g (Sends (inner_of p)) s,
         own-one g (Puts g (inner_of p)) refl,
-        sends_so k life most fits (owner_in owners) es g (inner_of p) s st,
-        putted p _ w _ _
-            (ap gone_out (put_same s (owner_at owners p.from) (owner_at owners p.to) (owner_in owners p.from) (owner_in owners p.to) from to))
-            (put_after_same s (owner_at owners p.from) (owner_at owners p.to) (owner_in owners p.from) (owner_in owners p.to) from to),
+        sends_known k life most fits (owner_at owners) (owner_in owners) (table_knows k owners few) es g (inner_of p) s less st,
+        putted p w (put_after (owner_at owners p.from) (owner_at owners p.to) s),
         inl refl,
       ))
   went g (Bring i t) b es rest h n = brings b es rest g i t h n
@@ -492,21 +470,21 @@ all-plays owners events b k life most es few fits h n =
     (z.0, z.1, main (rules_of life most (owner_in owners)) (z.0 ++ es), kept k life most few fits owners (plays owners events b) (z.0 ++ es) z.1)
 
 -- what is asked of a gate, whatever it is
-pub does_so : (k life most : ℕ) → k ≤ 32 → (fits : most < 2 ^ 32) (owner : ℕ → ℕ) (es : List Ev) (a : ℕ) (c : Call) (s : Gateway) →
+pub does_so : (k life most : ℕ) (fits : most < 2 ^ 32) (known : ℕ → Option ℕ) (owner : ℕ → ℕ) → Knows k known owner → (es : List Ev) (a : ℕ) (c : Call) (s : Gateway) → a < k →
     Stands k life most a s ((world (rules_of life most owner) es).now a) ((world (rules_of life most owner) es).gates a) → AllNew (offers c) (world (rules_of life most owner) es) →
-    Follows (Stands k life most a) a (world (rules_of life most owner) es) (world (rules_of life most owner) (doing a c s ++ es)) (does owner a c s)
-does_so k life most few fits owner es a Ticks s st new = ticks_so k life most fits owner es a s st
-does_so k life most few fits owner es a (Says e t) s st new = says_so k life most fits owner es a e t s st new
-does_so k life most few fits owner es a (Sends x) s st new = sends_so k life most fits owner es a x s st
-does_so k life most few fits owner es a Falls s st new = falls_so k life most fits owner es a s st
+    Follows (Stands k life most a) a (world (rules_of life most owner) es) (world (rules_of life most owner) (doing a c s ++ es)) (does known a c s)
+does_so k life most fits known owner knows es a Ticks s less st new = ticks_so k life most fits owner es a s st
+does_so k life most fits known owner knows es a (Says e t) s less st new = says_so k life most fits owner es a e t s st new
+does_so k life most fits known owner knows es a (Sends x) s less st new = sends_known k life most fits known owner knows es a x s less st
+does_so k life most fits known owner knows es a Falls s less st new = falls_so k life most fits owner es a s st
 
-pub does-own : (k life most : ℕ) → k ≤ 32 → most < 2 ^ 32 → (owner : ℕ → ℕ) (a : ℕ) (c : Call) (s : Gateway) (now : ℕ) (g : worlds.Gate) → Stands k life most a s now g → AllOfGate k a (doing a c s)
-does-own k life most few fits owner a Ticks s now g st = own-cond k life most few fits [] a (ltb s.now (2 ^ 64 - 1)) (worlds.Tick a ∷ []) (λ e. own-one k life most few fits [] a (worlds.Tick a) refl)
-does-own k life most few fits owner a (Says e t) s now g st =
+pub does-own : (k life most : ℕ) → k ≤ 32 → most < 2 ^ 32 → (a : ℕ) (c : Call) (s : Gateway) (now : ℕ) (g : worlds.Gate) → Stands k life most a s now g → AllOfGate k a (doing a c s)
+does-own k life most few fits a Ticks s now g st = own-cond k life most few fits [] a (ltb s.now (2 ^ 64 - 1)) (worlds.Tick a ∷ []) (λ e. own-one k life most few fits [] a (worlds.Tick a) refl)
+does-own k life most few fits a (Says e t) s now g st =
     own-cond k life most few fits [] a (may_greet e t s) (worlds.Greets a e t ∷ []) (λ m. own-one k life most few fits [] a (worlds.Greets a e t) (refl, greeted-below k life most few fits [] e t s st.gates_so m))
-does-own k life most few fits owner a (Sends x) s now g st = own-one k life most few fits [] a (Puts a x) refl
-does-own k life most few fits owner a Falls s now g st = own-one k life most few fits [] a (worlds.Restarts a) refl
+does-own k life most few fits a (Sends x) s now g st = own-one k life most few fits [] a (Puts a x) refl
+does-own k life most few fits a Falls s now g st = own-one k life most few fits [] a (worlds.Restarts a) refl
 
-pub hears-own : (k life most : ℕ) → k ≤ 32 → most < 2 ^ 32 → (owner : ℕ → ℕ) (a : ℕ) (x : Sealed) (ts : List ℕ) (s : Gateway) (i : ℕ) → AllOfGate k a (hearing owner a x ts s i)
-hears-own k life most few fits owner a x ts s i =
-    own_more k life most few fits [] a (Brings a i (drawn_of ts)) (drops_for a (peer_at (by_of x) s) (took (as_code owner x) (drawn_of ts) s)) refl (hearing_own k life most few fits [] a (peer_at (by_of x) s) (took (as_code owner x) (drawn_of ts) s))
+pub hears-own : (k life most : ℕ) → k ≤ 32 → most < 2 ^ 32 → (known : ℕ → Option ℕ) (a : ℕ) (x : Sealed) (ts : List ℕ) (s : Gateway) (i : ℕ) → AllOfGate k a (hearing known a x ts s i)
+hears-own k life most few fits known a x ts s i =
+    own_more k life most few fits [] a (Brings a i (drawn_of ts)) (drops_for a (peer_at (by_of x) s) (took (as_code known x) (drawn_of ts) s)) refl (hearing_own k life most few fits [] a (peer_at (by_of x) s) (took (as_code known x) (drawn_of ts) s))

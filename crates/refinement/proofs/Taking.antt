@@ -128,7 +128,7 @@ module _ (k life most : ℕ) (few : k ≤ 32) (owner : ℕ → ℕ) where
 
   pub hello_so : (es : List Ev) (a by f tag n : ℕ) (ts : List ℕ) (s : Gateway) (i : ℕ) → GreetsBelow k es → Stands k life most a s ((world r es).now a) ((world r es).gates a) →
       At i (HelloWord by f tag n) (world r es).net → AllNew ts (world r es) →
-      Follows (Stands k life most a) a (world r es) (world r (calls.hearing owner a (HelloWord by f tag n) ts s i ++ es)) (calls.hears owner a (HelloWord by f tag n) ts s)
+      Follows (Stands k life most a) a (world r es) (world r (calls.hearing (calls.all_known owner) a (HelloWord by f tag n) ts s i ++ es)) (calls.hears (calls.all_known owner) a (HelloWord by f tag n) ts s)
   unfolding world
   hello_so es a by f tag n ts s i below st p new = go (hello_fault by f tag n drawn s) refl
     where
@@ -273,7 +273,7 @@ module _ (k life most : ℕ) (few : k ≤ 32) (owner : ℕ → ℕ) where
 
   pub reply_so : (es : List Ev) (a by f tag to : ℕ) (ts : List ℕ) (s : Gateway) (i : ℕ) → GreetsBelow k es → Stands k life most a s ((world r es).now a) ((world r es).gates a) →
       At i (ReplyWord by f tag to) (world r es).net →
-      Follows (Stands k life most a) a (world r es) (world r (calls.hearing owner a (ReplyWord by f tag to) ts s i ++ es)) (calls.hears owner a (ReplyWord by f tag to) ts s)
+      Follows (Stands k life most a) a (world r es) (world r (calls.hearing (calls.all_known owner) a (ReplyWord by f tag to) ts s i ++ es)) (calls.hears (calls.all_known owner) a (ReplyWord by f tag to) ts s)
   unfolding world
   reply_so es a by f tag to ts s i below st p = go (reply_fault by f tag to s) refl
     where
@@ -475,7 +475,7 @@ module _ (k life most : ℕ) (few : k ≤ 32) (owner : ℕ → ℕ) where
 
   pub empty_so : (es : List Ev) (a by f m h n : ℕ) (ts : List ℕ) (s : Gateway) (i : ℕ) → GreetsBelow k es → Stands k life most a s ((world r es).now a) ((world r es).gates a) →
       At i (EmptyWord by f m h n) (world r es).net →
-      Follows (Stands k life most a) a (world r es) (world r (calls.hearing owner a (EmptyWord by f m h n) ts s i ++ es)) (calls.hears owner a (EmptyWord by f m h n) ts s)
+      Follows (Stands k life most a) a (world r es) (world r (calls.hearing (calls.all_known owner) a (EmptyWord by f m h n) ts s i ++ es)) (calls.hears (calls.all_known owner) a (EmptyWord by f m h n) ts s)
   unfolding world
   empty_so es a by f m h n ts s i below st p = go (found_talk by f m h n s) refl
     where
@@ -536,7 +536,7 @@ module _ (k life most : ℕ) (few : k ≤ 32) (owner : ℕ → ℕ) where
 
   pub packet_so : (es : List Ev) (a by f m h n : ℕ) (y : Inner) (ts : List ℕ) (s : Gateway) (i : ℕ) → GreetsBelow k es → Stands k life most a s ((world r es).now a) ((world r es).gates a) →
       At i (PacketWord by f m h n y) (world r es).net →
-      Follows (Stands k life most a) a (world r es) (world r (calls.hearing owner a (PacketWord by f m h n y) ts s i ++ es)) (calls.hears owner a (PacketWord by f m h n y) ts s)
+      Follows (Stands k life most a) a (world r es) (world r (calls.hearing (calls.all_known owner) a (PacketWord by f m h n y) ts s i ++ es)) (calls.hears (calls.all_known owner) a (PacketWord by f m h n y) ts s)
   unfolding world
   packet_so es a by f m h n y ts s i below st p = go (packet_talk by f m h n (Some (owner y.from)) (Some (owner y.to)) s) refl
     where

@@ -1,6 +1,6 @@
 -- Which events of the abstract protocol each call of a gate's code is, and what it adds to the net, to what was put in and came out, and to the drawn tags.
 -- Assumes nothing.
-use Rattle.std.specs.Prelude.{◌≡◌, ◌≢◌, ℕ, ◌-◌, ◌^◌, false, cond, List, [], ◌∷◌, Some, None, Ok, Err, Option, Result, nat_lt, slice_index_or}
+use Rattle.std.specs.Prelude.{◌≡◌, ◌≢◌, ℕ, ◌-◌, ◌^◌, ◌≤◌, false, cond, List, [], ◌∷◌, Some, None, Ok, Err, Option, Result, nat_lt, slice_index_or}
 use Rattle.protocol.specs.declared.refusals.Refusal.{Refusal}
 use Rattle.gates.specs.Talk.{Inner}
 use Rattle.gates.specs.World.{Note, Ev, Tick, Greets, Puts, Brings, Restarts, Drops, note}
@@ -40,12 +40,25 @@ abbrev pub drawn_of : List ℕ → ℕ
 drawn_of [] = 0
 drawn_of (t ∷ ts) = t
 
--- A word of the abstract protocol as the code has it: of a packet only the owners of its addresses.
-abbrev pub as_code : (ℕ → ℕ) → Sealed → Word
-as_code owner (HelloWord a e t n) = Hello a e t n
-as_code owner (ReplyWord a e t k) = Reply a e t k
-as_code owner (PacketWord a e m h n x) = Packet (in_talk a e m h n) (between (Some (owner x.from)) (Some (owner x.to)))
-as_code owner (EmptyWord a e m h n) = Empty (in_talk a e m h n)
+-- What the code knows of who owns which address, where each address is owned.
+abbrev pub all_known : (ℕ → ℕ) → ℕ → Option ℕ
+all_known owner x = Some (owner x)
+
+-- Among k gates this is the abstract protocol's number for an owner that the code may know: nobody's is any number that is none of theirs.
+abbrev pub IsOwner : ℕ → Option ℕ → ℕ → Type 0
+IsOwner k (Some g) n = n ≡ g
+IsOwner k None n = k ≤ n
+
+-- What the code knows of who owns which address is what the abstract protocol says, among k gates.
+abbrev pub Knows : ℕ → (ℕ → Option ℕ) → (ℕ → ℕ) → Type 0
+Knows k known owner = (x : ℕ) → IsOwner k (known x) (owner x)
+
+-- A word of the abstract protocol as the code has it: of a packet only the owners of its addresses, as far as they are known.
+abbrev pub as_code : (ℕ → Option ℕ) → Sealed → Word
+as_code known (HelloWord a e t n) = Hello a e t n
+as_code known (ReplyWord a e t k) = Reply a e t k
+as_code known (PacketWord a e m h n x) = Packet (in_talk a e m h n) (between (known x.from) (known x.to))
+as_code known (EmptyWord a e m h n) = Empty (in_talk a e m h n)
 
 -- The abstract protocol's number for an owner that the code may know: nobody's is any number that is no gate's.
 abbrev pub Numbers : Gateway → Option ℕ → ℕ → Type 0
@@ -130,21 +143,21 @@ abbrev pub drawn_as : ℕ → Option Word → List ℕ
 drawn_as t None = []
 drawn_as t (Some w) = t ∷ []
 
-module _ (owner : ℕ → ℕ) where
+module _ (known : ℕ → Option ℕ) where
   -- A WORD IS BROUGHT to gate a: what the code answers decides all that is added.
   abbrev pub hears : (a : ℕ) → Sealed → (tags : List ℕ) → Gateway → Did Gateway
   hears a x ts s =
       record {
-        after = took_after (as_code owner x) (drawn_of ts) s;
-        sent = sent_for (took (as_code owner x) (drawn_of ts) s);
+        after = took_after (as_code known x) (drawn_of ts) s;
+        sent = sent_for (took (as_code known x) (drawn_of ts) s);
         put = [];
-        out = out_for a x (took (as_code owner x) (drawn_of ts) s);
-        drew = drew_for (drawn_of ts) (took (as_code owner x) (drawn_of ts) s);
+        out = out_for a x (took (as_code known x) (drawn_of ts) s);
+        drew = drew_for (drawn_of ts) (took (as_code known x) (drawn_of ts) s);
       }
 
   -- It is a delivery, after a drop where three talks were had; a refusal is a delivery that changes nothing.
   abbrev pub hearing : (a : ℕ) → Sealed → (tags : List ℕ) → Gateway → (place : ℕ) → List Ev
-  hearing a x ts s i = Brings a i (drawn_of ts) ∷ drops_for a (peer_at (by_of x) s) (took (as_code owner x) (drawn_of ts) s)
+  hearing a x ts s i = Brings a i (drawn_of ts) ∷ drops_for a (peer_at (by_of x) s) (took (as_code known x) (drawn_of ts) s)
 
   -- SOMETHING IS ASKED of gate a.
   abbrev pub does : (a : ℕ) → Call → Gateway → Did Gateway
@@ -153,9 +166,9 @@ module _ (owner : ℕ → ℕ) where
       record { after = greet_after e t s; sent = sent_as nothing (greet e t s); put = []; out = []; drew = drawn_as t (greet e t s) }
   does a (Sends x) s =
       record {
-        after = put_after (Some (owner x.from)) (Some (owner x.to)) s;
-        sent = sent_as x (gone_out (put (Some (owner x.from)) (Some (owner x.to)) s));
-        put = put_as x (gone_out (put (Some (owner x.from)) (Some (owner x.to)) s));
+        after = put_after (known x.from) (known x.to) s;
+        sent = sent_as x (gone_out (put (known x.from) (known x.to) s));
+        put = put_as x (gone_out (put (known x.from) (known x.to) s));
         out = [];
         drew = [];
       }

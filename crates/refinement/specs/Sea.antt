@@ -1,5 +1,5 @@
 -- Many gates that run the code, and a net that keeps every word and brings any of them to anybody; and what is promised of them. Assumes nothing.
-use Rattle.std.specs.Prelude.{◌≡◌, ℕ, ◌+◌, ◌-◌, ◌^◌, ◌<◌, ◌≤◌, false, cond, List, [], ◌∷◌, ◌++◌, map, length, get_or, Some, None, Ok, Err, vec_items, vec_len, vec_capacity, Option, Result, ◌≢◌, nat_lt, option_map, unwrap_or, slice_get, slice_index_or, slice_set}
+use Rattle.std.specs.Prelude.{◌≡◌, ℕ, ◌+◌, ◌-◌, ◌^◌, ◌<◌, ◌≤◌, true, false, cond, List, [], ◌∷◌, ◌++◌, map, length, get_or, All, is_some, Some, None, Ok, Err, vec_items, vec_len, vec_capacity, Option, Result, ◌≢◌, nat_lt, option_map, unwrap_or, slice_get, slice_index_or, slice_set}
 use Rattle.std.specs.List.{range_with_len}
 use Rattle.protocol.specs.declared.refusals.Refusal.{Refusal}
 use Rattle.gates.specs.Lists.{In, At}
@@ -24,7 +24,7 @@ use Rattle.refinement.specs.declared.state.EventKind.TheVariants.{Tick, Restart,
 use Rattle.refinement.specs.declared.state.Outcome.{Outcome}
 use Rattle.refinement.specs.declared.state.Sea.{Sea}
 use Rattle.refinement.specs.Relation.{rules_of, Stands}
-use Rattle.refinement.specs.Calls.{as_word, nothing, gone_out, put_as}
+use Rattle.refinement.specs.Calls.{as_code, as_word, nothing, gone_out, put_as}
 
 -- Who owns an address: a table by address; what it lacks is nobody's.
 abbrev pub owner_in : List ℕ → ℕ → ℕ
@@ -50,16 +50,9 @@ inner_in (Some p) = inner_of p
 abbrev pub sealed_of : Letter → Sealed
 sealed_of l = as_word (inner_in l.parcel) l.word
 
--- a word with other owners of its addresses, if it is a packet's
-abbrev pub with_owners : Owners → Word → Word
-with_owners o (Hello a e t n) = Hello a e t n
-with_owners o (Reply a e t k) = Reply a e t k
-with_owners o (Packet p q) = Packet p o
-with_owners o (Empty p) = Empty p
-
 -- The word that a gate takes a letter for: of a packet, with the owners of its addresses.
 abbrev pub opened : List ℕ → Letter → Word
-opened owners l = with_owners (owners_of owners (inner_in l.parcel)) l.word
+opened owners l = as_code (owner_at owners) (sealed_of l)
 
 -- The gates' memories, all words ever made, and all that was put in and came out, the earliest first.
 pub record Books : Type 0 where
@@ -148,6 +141,26 @@ pub record HasRoom (s : Sea) : Type 0 where
   pub net : vec_len s.net < vec_capacity s.net
   pub put : vec_len s.put < vec_capacity s.put
   pub out : vec_len s.out < vec_capacity s.out
+
+-- This letter carries a packet.
+abbrev pub Carries : Letter → Type 0
+Carries l = is_some l.parcel ≡ true
+
+-- a word goes with its packet, if it is a packet's
+abbrev pub Laden : Word → Option Parcel → Type 0
+Laden (Hello a e t n) p = Unit {0}
+Laden (Reply a e t k) p = Unit {0}
+Laden (Packet q o) p = is_some p ≡ true
+Laden (Empty q) p = Unit {0}
+
+abbrev pub CarriesIts : Letter → Type 0
+CarriesIts l = Laden l.word l.parcel
+
+-- Each letter that was put in or came out carries a packet, and so does each packet's letter of the net.
+pub record AllCarried (b : Books) : Type 0 where
+  pub net : All CarriesIts b.net
+  pub put : All Carries b.put
+  pub out : All Carries b.out
 
 -- The books after a list of events, the earliest first.
 unfoldable pub plays : List ℕ → List Event → Books → Books

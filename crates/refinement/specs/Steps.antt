@@ -12,7 +12,7 @@ use Rattle.gateway.specs.declared.state.Gateway.{Gateway}
 use Rattle.gateway.specs.declared.state.Word.{Word}
 use Rattle.gateway.specs.declared.state.Taken.{Taken}
 use Rattle.refinement.specs.Relation.{rules_of, Stands}
-use Rattle.refinement.specs.Calls.{Ticks, Says, Falls, drawn_of, Numbers, ReadsAs, nothing, sent_for, drew_for, out_for, hearing, sent_as, put_as, gone_out, drawn_as, doing}
+use Rattle.refinement.specs.Calls.{Ticks, Says, Falls, drawn_of, all_known, Numbers, ReadsAs, nothing, sent_for, drew_for, out_for, hearing, sent_as, put_as, gone_out, drawn_as, doing}
 
 -- For at most 32 gates, any life, most and owners of addresses, and any word x of the net that the code may have as this word:
 unfoldable pub TakeFollows : Word → (drawn : ℕ) → Gateway → Result Taken Refusal → Gateway → Type 0
@@ -20,7 +20,7 @@ TakeFollows word drawn s res after =
     (k life most : ℕ) (owner : ℕ → ℕ) (es : List Ev) (a : ℕ) (x : Sealed) (ts : List ℕ) (i : ℕ) → k ≤ 32 → GreetsBelow k es → ReadsAs s owner x word → drawn_of ts ≡ drawn →
     Stands k life most a s ((world (rules_of life most owner) es).now a) ((world (rules_of life most owner) es).gates a) → At i x (world (rules_of life most owner) es).net →
     AllNew ts (world (rules_of life most owner) es) →
-    Follows (Stands k life most a) a (world (rules_of life most owner) es) (world (rules_of life most owner) (hearing owner a x ts s i ++ es)) (record { after = after; sent = sent_for res; put = []; out = out_for a x res; drew = drew_for drawn res })
+    Follows (Stands k life most a) a (world (rules_of life most owner) es) (world (rules_of life most owner) (hearing (all_known owner) a x ts s i ++ es)) (record { after = after; sent = sent_for res; put = []; out = out_for a x res; drew = drew_for drawn res })
 
 -- For any packet between these two owners:
 unfoldable pub PutFollows : (source goal : Option ℕ) → Gateway → Result (Option Word) Refusal → Gateway → Type 0

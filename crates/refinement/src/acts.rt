@@ -88,6 +88,7 @@ pub(crate) fn act(
 ) -> Option<Outcome>
     ensures after { memory.new ≡ after_of owners.now net.now kind memory.old }
     ensures adds { result ≡ outcome_of owners.now net.now kind memory.old }
+    ensures still { result ≡ None → memory.new ≡ memory.old }
 {
     match kind {
         EventKind::Tick => {

@@ -1,10 +1,10 @@
 // Gates and a net of words, driven by events; the promise stands on `play`. Assumes that drawn tags are new, where a contract says so.
 ghost use Rattle.std.specs.Prelude.{◌≡◌, ℕ, ◌+◌, ◌<◌, ◌≤◌, true, ◌++◌, length, take as front, is_ok, IfOk, if◌then◌else◌, vec_len, vec_capacity};
-ghost use Rattle.refinement.specs.Sea.{list_of, entered, happens, plays, Plays, Books, books_of, HasRoom, new_gates, Begun, CanOpen};
+ghost use Rattle.refinement.specs.Sea.{list_of, happens, plays, Plays, Books, AllCarried, books_of, HasRoom, new_gates, Begun, CanOpen};
 
 use crate::acts::act;
 use crate::calls::start;
-use crate::state::{Event, Letter, Outcome, Sea};
+use crate::state::{Event, Letter, Sea};
 use gateway::{Gateway, Terms};
 use std::alloc::{AllocError, Global};
 
@@ -27,9 +27,10 @@ fn made(heap: Global, gates: u8, terms: Terms) -> Result<Vec<Gateway>, AllocErro
 
 impl Sea {
     /// Gates that were just made, and an empty net; and for how long each talk is good.
-    #[tactic(auto, using(crate::proofs::Begins::begun))]
+    #[tactic(auto, using(crate::proofs::Begins::begun, crate::proofs::Carrying::none_carried))]
     pub fn new(heap: Global, gates: u8, terms: Terms) -> Result<Sea, AllocError>
-        ensures { IfOk result (λ s. Begun gates terms.life terms.most (books_of s)) }
+        ensures begins { IfOk result (λ s. Begun gates terms.life terms.most (books_of s)) }
+        ensures carried { IfOk result (λ s. AllCarried (books_of s)) }
     {
         Ok(Sea {
             gates: made(heap, gates, terms)?,
@@ -47,14 +48,14 @@ impl Sea {
         self.net.as_slice()
     }
 
-    /// All that was put in and went out, the earliest first, each in the word that it went out in.
+    /// All that was put in and went out, the earliest first, each in the word that it went out in and with its packet (`carried` of `new`, `step` and `play`).
     pub fn put_in(&self) -> &[Letter]
         ensures { result.now ≡ self.now.put.items }
     {
         self.put.as_slice()
     }
 
-    /// All that came out, the earliest first, each in the word that it came in.
+    /// All that came out, the earliest first, each in the word that it came in and with its packet (the same).
     pub fn came_out(&self) -> &[Letter]
         ensures { result.now ≡ self.now.out.items }
     {
@@ -71,29 +72,20 @@ impl Sea {
         self.out.reserve(1)
     }
 
-    /// Enters what an event did into a gate's memory and the books.
-    fn enter(&mut self, at: usize, memory: Gateway, outcome: Outcome)
-        requires here { at < vec_len self.old.gates }
-        requires room { HasRoom self.old }
-        ensures { books_of self.new ≡ entered at memory outcome (books_of self.old) }
-    {
-        self.gates[at] = memory;
-        note(&mut self.net, outcome.sent);
-        note(&mut self.put, outcome.put);
-        note(&mut self.out, outcome.out);
-    }
-
     /// One event happens. Where its gate or its letter is not there, nothing does; where there is no memory for it, neither, and that is said.
+    #[tactic(auto, using(crate::proofs::Carrying::stepped_carried))]
     pub fn step(&mut self, owners: &[u8], event: Event) -> Result<(), AllocError>
-        ensures { books_of self.new ≡ (if is_ok result then happens owners.now event (books_of self.old) else books_of self.old) }
+        ensures happens { books_of self.new ≡ (if is_ok result then happens owners.now event (books_of self.old) else books_of self.old) }
+        ensures carried { AllCarried (books_of self.old) → AllCarried (books_of self.new) }
     {
         self.make_room()?;
-        let at = usize::from(event.gate);
-        let Some(mut memory) = self.gates.get(at).copied() else {
+        let Some(memory) = self.gates.get_mut(usize::from(event.gate)) else {
             return Ok(());
         };
-        if let Some(outcome) = act(&mut memory, owners, self.net.as_slice(), event.kind) {
-            self.enter(at, memory, outcome);
+        if let Some(outcome) = act(memory, owners, self.net.as_slice(), event.kind) {
+            note(&mut self.net, outcome.sent);
+            note(&mut self.put, outcome.put);
+            note(&mut self.out, outcome.out);
         }
         Ok(())
     }
@@ -106,6 +98,7 @@ impl Sea {
         ensures within { result ≤ length events.now }
         ensures played { books_of self.new ≡ plays owners.now (front result events.now) (books_of self.old) }
         ensures keeps { Plays owners.now (front result events.now) (books_of self.old) (books_of self.new) }
+        ensures carried { AllCarried (books_of self.old) → AllCarried (books_of self.new) }
     {
         for (played, event) in events.iter().enumerate() {
             if self.step(owners, *event).is_err() {

@@ -133,8 +133,8 @@ fn play(rt: &HostRuntime, sea: &mut Sea, line: Line) -> anyhow::Result<()> {
         let sent = Named(letter.word);
         print!(rt; ": {sent} goes out as word {words}")?;
     }
-    let parcel = sea.came_out().get(came).and_then(|letter| letter.parcel);
-    if let Some(Parcel { from, to, .. }) = parcel {
+    if let Some(letter) = sea.came_out().get(came) {
+        let Parcel { from, to, .. } = letter.parcel.unwrap_or_default();
         print!(rt; ": it comes out, from {from} to {to}")?;
     }
     println!(rt; "")?;
