@@ -4,7 +4,7 @@ use std::alloc::AllocError;
 use thiserror::Error;
 
 /// What is wrong with a line of a plan.
-#[derive(Debug, Drop, Error)]
+#[derive(Clone, Copy, Debug, Drop, Error)]
 pub enum TextFault {
     /// It is neither life, nor most, nor a gate.
     #[error("the line is none of: life TICKS, most PACKETS, NUMBER NAME A.B.C.D/N A.B.C.D")]

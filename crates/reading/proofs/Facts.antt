@@ -79,6 +79,12 @@ pub clear-number : (key turning nonce inside : List ℕ) (k a e h n : ℕ) → t
 unfolding sealed_by bytes8
 clear-number key turning nonce inside k a e h n = refl
 
+-- the drawn bytes
+pub clear_field : (key turning field nonce inside : List ℕ) (k a e : ℕ) → length field ≡ 16 → take 16 (drop 3 (sealed_by key turning (k ∷ a ∷ e ∷ field) nonce inside)) ≡ field
+unfolding sealed_by
+clear_field key turning field nonce inside k a e long =
+    ap (take 16) (append_assoc field (encrypt turning 0 nonce inside) _) ∙ take_at field _ 16 long
+
 -- the nonce, which the drawn bytes begin with
 pub clear_nonce : (key turning field nonce inside : List ℕ) (k a e : ℕ) → length field ≡ 16 → take 12 (drop 3 (sealed_by key turning (k ∷ a ∷ e ∷ field) nonce inside)) ≡ take 12 field
 unfolding sealed_by

@@ -34,7 +34,9 @@ fn header_field<T: PartialOrd + Drop>(
 ) -> Result<T, Fault>
     ensures { result ≡ checked_by (range_inclusive_contains T.partial_cmp allowed) (header_fault field) number }
 {
-    let number = number.ok_or(Fault::in_header(field, Cause::Missing))?;
+    let Some(number) = number else {
+        return Err(Fault::in_header(field, Cause::Missing));
+    };
     if allowed.contains(&number) {
         Ok(number)
     } else {
@@ -83,16 +85,19 @@ impl<'a> Reader<'a> {
         requires { at < 44 }
         ensures { result ≡ address_field self.entry.bytes.now field gate at }
     {
-        let address = self.long(entry_at(gate) + at);
-        address.ok_or(Fault::in_entry(field, gate, Cause::Missing))
+        let Some(address) = self.long(entry_at(gate) + at) else {
+            return Err(Fault::in_entry(field, gate, Cause::Missing));
+        };
+        Ok(address)
     }
 
     // The key of a gate's entry, which must be there, and zeros in the gate's own.
     fn gate_key(self, gate: u8, own: u8) -> Result<Key, Fault>
         ensures { result ≡ key_checked own gate (bytes_in self.entry.bytes.now (entry_at gate) key_size) }
     {
-        let key = self.key(entry_at(gate));
-        let key = key.ok_or(Fault::in_entry(Field::Key, gate, Cause::Missing))?;
+        let Some(key) = self.key(entry_at(gate)) else {
+            return Err(Fault::in_entry(Field::Key, gate, Cause::Missing));
+        };
         if gate == own && !all_zero(&key.bytes) {
             return Err(Fault::in_entry(Field::Key, gate, Cause::Wrong));
         }

@@ -1,5 +1,5 @@
 -- The key stream of the cipher: its length, its bytes, and that turning twice gives the text back. Assumes nothing.
-use Rattle.std.proofs.Common.{◌≡◌, ℕ, zero, suc, ◌+◌, ◌*◌, ◌≤◌, List, [], ◌∷◌, length, refl, ap, ◌∙◌, arith, length-append, length-set}
+use Rattle.std.proofs.Common.{◌≡◌, ℕ, zero, suc, ◌+◌, ◌*◌, ◌≤◌, List, [], ◌∷◌, length, sym, refl, ap, ◌∙◌, arith, length-append, length-set}
 use lib.Bits.{bit_xor, xor_assoc, xor_self, xor_zero_r}
 use lib.Lanes.{zip2}
 use Rattle.cipher.specs.ChaCha20.{add32, add_word, turn_word, line, quarter_round, column_round, diagonal_round, inner_block, inner_blocks, start_state, word_bytes, serialized, block_of, block, keystream, blocks_for, encrypt}
@@ -75,3 +75,7 @@ encrypt-twice key c nonce text =
     let stream : List ℕ = keystream key c nonce (blocks_for (length text)) in
     let long : length (zip2 bit_xor text stream) ≡ length text = length-encrypt key c nonce text in
     ap (λ n. zip2 bit_xor (zip2 bit_xor text stream) (keystream key c nonce (blocks_for n))) long ∙ zip_twice text stream (enough key c nonce text)
+
+-- so two texts that are turned alike are the same
+pub encrypt-same : (key : List ℕ) (c : ℕ) (nonce s t : List ℕ) → encrypt key c nonce s ≡ encrypt key c nonce t → s ≡ t
+encrypt-same key c nonce s t e = sym (encrypt-twice key c nonce s) ∙ ap (encrypt key c nonce) e ∙ encrypt-twice key c nonce t

@@ -49,7 +49,10 @@ impl Side {
 fn named(talk: Option<TalkKeys>, tag: u64) -> Result<TalkKeys, Refusal>
     ensures { result ≡ ok_or (named_by talk tag) Refusal.NoTalk }
 {
-    talk.filter(|keys| keys.mine == tag).ok_or(Refusal::NoTalk)
+    let Some(talk) = talk.filter(|keys| keys.mine == tag) else {
+        return Err(Refusal::NoTalk);
+    };
+    Ok(talk)
 }
 
 impl TalkKeys {
