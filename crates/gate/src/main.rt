@@ -7,10 +7,17 @@ use anyhow::{Context, bail, ensure};
 use protocol::Refusal;
 use settings::Settings;
 use state::{Answer, Gate, Missing};
-use std::collections::BTreeSet;
 use std::io::{BufRead, BufReader};
 use std::process::ExitCode;
-use std::{env, fs};
+use std::{env, fs, mem};
+
+// What was said on standard error so far: each thing that can't be done yet is named once. Two
+// flags, and no set, which would need memory that may not be there.
+#[derive(Default, Drop)]
+struct Told {
+    words: bool,
+    packets: bool,
+}
 
 fn main(rt: HostRuntime) -> anyhow::Result<ExitCode> {
     if let Err(why) = run(&rt) {
@@ -68,7 +75,7 @@ fn run(rt: &HostRuntime) -> anyhow::Result<()> {
 fn read_events(rt: &HostRuntime, gate: &mut Gate) -> anyhow::Result<u64> {
     let mut input = BufReader::new(rt.alloc(), rt.stdin())?;
     let mut line = Vec::new(rt.alloc());
-    let mut told = BTreeSet::new(rt.alloc());
+    let mut told = Told::default();
     let mut faults = 0u64;
     // One buffer is used for all lines, where `split` makes one of each; the loop ends with the input.
     for number in 1..u64::MAX {
@@ -88,9 +95,13 @@ fn read_events(rt: &HostRuntime, gate: &mut Gate) -> anyhow::Result<u64> {
 }
 
 // Says what can't be done yet, unless that was told before.
-fn tell(rt: &HostRuntime, answer: Answer, told: &mut BTreeSet<Missing>) -> anyhow::Result<()> {
+fn tell(rt: &HostRuntime, answer: Answer, told: &mut Told) -> anyhow::Result<()> {
     if let Answer::NotYet(missing) = answer {
-        if told.insert(missing)? {
+        let told = match missing {
+            Missing::Words => &mut told.words,
+            Missing::Packets => &mut told.packets,
+        };
+        if !mem::replace(told, true) {
             eprintln!(rt; "gate: {missing}")?;
         }
     }

@@ -38,8 +38,9 @@ fn run(rt: &HostRuntime) -> anyhow::Result<()> {
             label,
             talk: here.talk(mine, theirs),
             here,
-            back: there.talk(theirs, mine),
             there,
+            mine,
+            theirs,
         };
         trial.opens(word.as_slice())?;
         if table == "whole" {

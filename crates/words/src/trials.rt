@@ -5,8 +5,8 @@ use protocol::limits::{FIELD, SUM};
 use wire::layout::{DRAWN_AT, INSIDE_AT, MAX_WORD};
 use wire::{Opened, PairKeys, TalkKeys};
 
-/// What words are tried with: the keys of the gate that opens them, those of the other one, and
-/// the label under which it is said.
+/// What words are tried with: the keys of the gate that opens them, those of the other one, the
+/// talk's tags as the first has them, and the label under which it is said.
 #[derive(Drop)]
 pub struct Trial<'a> {
     pub rt: &'a HostRuntime,
@@ -14,7 +14,8 @@ pub struct Trial<'a> {
     pub here: PairKeys,
     pub talk: TalkKeys,
     pub there: PairKeys,
-    pub back: TalkKeys,
+    pub mine: u64,
+    pub theirs: u64,
 }
 
 // The inside of an opened packet.
@@ -48,6 +49,11 @@ impl Trial<'_> {
         Ok(())
     }
 
+    // The other gate's keys of the talk: derived where a word is sealed again, which few are.
+    fn back(&self) -> TalkKeys {
+        self.there.talk(self.theirs, self.mine)
+    }
+
     // Seals by the other gate's keys what was opened, to the front of a buffer; its length, or none
     // where it isn't sealed.
     fn sealed(&self, opened: Opened, copy: &[u8], out: &mut [u8; MAX_WORD]) -> Option<usize> {
@@ -62,10 +68,13 @@ impl Trial<'_> {
                 self.there.seal_reply(drawn_in(copy)?, tag, asked, word);
                 Some(word.len())
             }
-            Opened::Packet { number } => self.back.seal_packet(number, inside_of(copy)?, out).ok(),
+            Opened::Packet { number } => self
+                .back()
+                .seal_packet(number, inside_of(copy)?, out)
+                .ok(),
             Opened::Empty { number } => {
                 let word = out.first_chunk_mut()?;
-                self.back.seal_empty(number, word);
+                self.back().seal_empty(number, word);
                 Some(word.len())
             }
             Opened::Oversize { .. } => None,
@@ -113,30 +122,40 @@ impl Trial<'_> {
     }
 
     // Says of each way in which a word is changed why it is refused then, a line for each run of
-    // equal answers. All answers are kept first, as `chunk_by` cuts a slice.
+    // equal answers, as soon as the run ends: only its beginning and its answer are kept.
     fn runs<F: FnMut(usize) -> Option<Refusal>>(
         &self,
         changed: &str,
         ways: usize,
-        answer: F,
+        mut answer: F,
     ) -> anyhow::Result<()>
         requires { (f : _) (x : _) → F.pre f x }
     {
-        let (rt, label) = (self.rt, self.label);
-        let answers: Vec<(usize, Option<Refusal>)> = (0..ways.max(1))
-            .map(answer)
-            .enumerate()
-            .collect(rt.alloc())?;
-        for run in answers
-            .as_slice()
-            .chunk_by(|(_, one), (_, next)| one == next)
-        {
-            let (from, refused) = run.first().unwrap();
-            let (to, _) = run.last().unwrap();
-            // The output says 0 where the word opens.
-            let number = refused.map_or(0, u8::from);
-            println!(rt; "{label} {changed} {from} to {to}: refused {number}")?;
+        let mut from = 0;
+        let mut refused = answer(0);
+        for way in 1..ways {
+            let next = answer(way);
+            if next != refused {
+                self.tell(changed, from, way - 1, refused)?;
+                from = way;
+                refused = next;
+            }
         }
+        self.tell(changed, from, ways.saturating_sub(1), refused)
+    }
+
+    // Says of a run of ways why a word is refused in each of them.
+    fn tell(
+        &self,
+        changed: &str,
+        from: usize,
+        to: usize,
+        refused: Option<Refusal>,
+    ) -> anyhow::Result<()> {
+        let (rt, label) = (self.rt, self.label);
+        // The output says 0 where the word opens.
+        let number = refused.map_or(0, u8::from);
+        println!(rt; "{label} {changed} {from} to {to}: refused {number}")?;
         Ok(())
     }
 
